@@ -1,24 +1,24 @@
 -- Printed forms, references, statements and loops lex as the words of their trees.
-use Rattle.std.proofs.Common.{◌≡◌, refl, sym, ap, subst, ◌∙◌, ℕ, zero, suc, ◌<◌, ◌≤◌, Bool, true, false, List, [], ◌∷◌, ◌++◌, append_assoc, append-nil, length, arith, length-append}
+use Rattle.std.proofs.Common.{◌≡◌, refl, sym, ap, subst, ◌∙◌, ℕ, zero, suc, ◌+◌, ◌<◌, ◌≤◌, Bool, true, false, List, [], ◌∷◌, ◌++◌, append_assoc, append-nil, length, arith, length-append}
 use Rattle.std.specs.Prelude.{ℤ, codes, ◌==◌, if◌then◌else◌, unsigned_abs, decimal, slice_get, slice_index_or, IsSomeAnd, flat_map}
-use Rattle.std.specs.List.{AllByRecursion, list_all}
+use Rattle.std.specs.List.{AllByRecursion, list_all, join_by}
 use Rattle.std.proofs.lemmas.Bool.Decides.{nat_tests}
 use Rattle.std.proofs.lemmas.Bool.{and_parts}
 use Rattle.base_laws.proofs.Lists.{All-append}
 use Rattle.iolb_model.specs.Form.{AffineForm}
-use Rattle.iolb_model.specs.Program.{Direction, upward, downward, Access, Statement, Item, assign, loop, Row, done, next, Array, AffineProgram, statement_at}
+use Rattle.iolb_model.specs.Program.{Direction, upward, downward, Access, Statement, Item, assign, loop, guard, Row, done, next, Array, AffineProgram, statement_at}
 use Rattle.iolb_model.specs.Printed.{is_below_zero, size_text, later_terms_text, terms_text, form_text}
 use Rattle.c_tokens.specs.Bytes.{is_name_byte, is_digit}
 use Rattle.c_tokens.specs.declared.token.TokenKind.{TokenKind}
 use Rattle.c_tokens.specs.declared.token.TokenKind.TheVariants as token
 use Rattle.c_tokens.specs.Names.{IsName}
 use Rattle.c_grammar.specs.Words.{Word, a_keyword, a_name, a_number, a_symbol}
-use Rattle.c_grammar.specs.Affine.{affine_words, sums_words, term_words, subscripts_words, reference_words}
+use Rattle.c_grammar.specs.Affine.{affine_words, sums_words, term_words, compares_words, subscripts_words, reference_words}
 use Rattle.c_grammar.specs.Value.{value_words, arguments_words}
-use Rattle.c_grammar.specs.Item.{assign_words, header_words, item_words, items_words}
-use Rattle.affine_c.specs.Text.{subscript_text, array_name, access_text, reads_text, statement_text, header_text, item_text, row_text}
-use Rattle.affine_c.specs.Tree.{size_tree, later_tree, terms_tree, form_terms, form_tree, subscripts_tree, access_tree, arguments_tree, reads_tree, statement_tree, header_tree, item_tree, row_tree}
-use Rattle.affine_c.proofs.Roles.{IsSmallForm, HasRoles, IsReadableAccess, AreReadableAccesses, access_seen, IsReadableStatement, IsReadableHeader, IsReadableItem, IsReadableRow, item_seen}
+use Rattle.c_grammar.specs.Item.{Items, assign_words, header_words, item_words, items_words}
+use Rattle.affine_c.specs.Text.{subscript_text, array_name, access_text, reads_text, statement_text, header_text, condition_text, guard_text, item_text, row_text}
+use Rattle.affine_c.specs.Tree.{size_tree, later_tree, terms_tree, form_terms, form_tree, subscripts_tree, access_tree, arguments_tree, reads_tree, statement_tree, header_tree, conditions_tree, guard_tree, item_tree, row_tree}
+use Rattle.affine_c.proofs.Roles.{IsSmallForm, HasRoles, IsReadableAccess, AreReadableAccesses, access_seen, IsReadableStatement, IsReadableHeader, IsReadableGuard, IsReadableItem, IsReadableRow, item_seen}
 use Rattle.affine_c.proofs.Lexed.{begins_so, goes_on, ends_name, ends_number, Piece, space, newline, word, text_in, words_in, IsWordAt, AreLexed, name_fits, number_fits, single_fits, plain_fits, minus_before, star_before, Writes, writes_decimal}
 use Rattle.affine_c.proofs.RowForms.{IsTerm, AreTerms, form_terms-are}
 use Rattle.iolb_model.specs.declared.limits.TheConstants.{NUMBER_SIZE, PARAMETERS, LOOPS}
@@ -239,15 +239,39 @@ module _ (p : AffineProgram) (is : HasRoles p) where
         let compare = space_then (word_then token.Symbol (codes ">=") (record { begins = refl; in_line = refl; long = λ region. refl; token = λ region place. refl }) low.lexes) in
         lexes_as (begun name upper fits.is_name fits.upper_small (name_lexes name fits.is_name compare)) (simp append_assoc) (simp append_assoc)
 
+    -- what stands behind a condition's form
+    zero_follows : {last : TokenKind} {text : List ℕ} {ws : List Word} → Follows last text ws → Follows last (codes " >= 0" ++ text) (a_symbol (codes ">=") ∷ a_number (codes "0") ∷ ws)
+    zero_follows behind = space_then (word_then token.Symbol (codes ">=") (record { begins = refl; in_line = refl; long = λ region. refl; token = λ region place. refl }) (space_then (none_lexes behind)).lexes)
+
+    -- the rows of a guard
+    conditions_lex : {last : TokenKind} {text : List ℕ} {ws : List Word} (row : AffineForm) (rows : List AffineForm) → AllByRecursion (IsSmallForm (length p.parameters) (length around)) (row ∷ rows) → Follows last text ws
+        → Lexes last true (join_by (condition_text (p.parameters ++ around)) (codes " && ") (row ∷ rows) ++ text) (compares_words (conditions_tree (p.parameters ++ around) row rows) ++ ws)
+    conditions_lex row [] small follows = lexes_as (form_lexes row are small.0 (zero_follows follows)) (simp (append-nil, append_assoc)) (simp append_assoc)
+    conditions_lex row (other ∷ rows) small follows =
+        let more = space_then (conditions_lex other rows small.1 follows) in
+        let both = space_then (word_then token.Symbol (codes "&&") (record { begins = refl; in_line = refl; long = λ region. refl; token = λ region place. refl }) more.lexes) in
+        lexes_as (form_lexes row are small.0 (zero_follows both)) (simp append_assoc) (simp append_assoc)
+
+    -- what a guard begins with, and the items of its block
+    guard_lexes : {last : TokenKind} {text : List ℕ} (ws : List Word) (guards : ℕ) (rows : List AffineForm) (items : Items) → last ≡ token.End → IsReadableGuard p (length around) guards rows → Lexes last false text (items_words items ++ (a_symbol (codes "}") ∷ ws))
+        → Lexes last false (guard_text (p.parameters ++ around) rows ++ text) (item_words (guard_tree (p.parameters ++ around) rows items) ++ ws)
+    guard_lexes ws guards [] items program fits l = absurd (omega (arith, fits.some))
+    guard_lexes ws guards (row ∷ rows) items program fits l =
+        let brace = space_then (symbol_then 123 (plain_fits 123 _ refl refl refl) refl (newline_then program l)).lexes in
+        let close = symbol_then 41 (plain_fits 41 _ refl refl refl) refl brace.lexes in
+        let conditions = conditions_lex row rows fits.small close in
+        lexes_as (word_then token.Word (codes "if") (record { begins = refl; in_line = refl; long = λ region. refl; token = λ region place. refl })
+        (space_then (word_then token.Symbol (codes "(") (plain_fits 40 _ refl refl refl) conditions)).lexes) (simp append_assoc) (simp append_assoc)
+
   mutual
     -- an item
-    item_lexes : {last : TokenKind} {text : List ℕ} {ws : List Word} (around : List (List ℕ)) (are : AreVariables p.parameters around) (seen : ℕ) (item : Item) → last ≡ token.End → IsReadableItem p around seen item → Lexes last false text ws
+    item_lexes : {last : TokenKind} {text : List ℕ} {ws : List Word} (around : List (List ℕ)) (are : AreVariables p.parameters around) (guards seen : ℕ) (item : Item) → last ≡ token.End → IsReadableItem p around guards seen item → Lexes last false text ws
         → Lexes last false (item_text p (p.parameters ++ around) item ++ text) (item_words (item_tree p (p.parameters ++ around) item) ++ ws)
-    item_lexes around are seen (assign number) program fits l = statement_lexes around are seen (statement_at p number) program fits l
-    item_lexes {last} {text} {ws} around are seen (loop name direction lower upper body) program fits l =
+    item_lexes around are guards seen (assign number) program fits l = statement_lexes around are seen (statement_at p number) program fits l
+    item_lexes {last} {text} {ws} around are guards seen (loop name direction lower upper body) program fits l =
         let inner : AreVariables p.parameters (around ++ name ∷ []) = are_variables (around ++ name ∷ []) (All-append IsName around (name ∷ []) are.loop_names (fits.0.is_name, tt)) (omega (arith, fits.0.depth, length-append around (name ∷ []))) in
         let close = word_then token.Symbol (codes "}") (plain_fits 125 _ refl refl refl) (newline_then program l) in
-        let rows = row_lexes (around ++ name ∷ []) inner seen body program fits.1 close in
+        let rows = row_lexes (around ++ name ∷ []) inner guards seen body program fits.1 close in
         let again = subst (λ names. Lexes last false (row_text p names body ++ (codes "}\n" ++ text)) (items_words (row_tree p names body) ++ (a_symbol (codes "}") ∷ ws))) (sym (append_assoc p.parameters around (name ∷ []))) rows in
         let head : List ℕ = header_text (p.parameters ++ around) name direction lower upper in
         let inside : List ℕ = row_text p ((p.parameters ++ around) ++ name ∷ []) body in
@@ -255,10 +279,16 @@ module _ (p : AffineProgram) (is : HasRoles p) where
         let words : List Word = items_words (row_tree p ((p.parameters ++ around) ++ name ∷ []) body) in
         lexes_as (header_lexes around are name direction lower upper program fits.0 again) (sym (append_assoc (head ++ inside) (codes "}\n") text ∙ append_assoc head inside (codes "}\n" ++ text)))
         (ap (λ (l : List Word). head_words ++ (a_symbol (codes "{") ∷ l)) (sym (append_assoc words (a_symbol (codes "}") ∷ []) ws)) ∙ sym (append_assoc head_words (a_symbol (codes "{") ∷ (words ++ a_symbol (codes "}") ∷ [])) ws))
+    item_lexes {last} {text} {ws} around are guards seen (guard rows body) program fits l =
+        let close = word_then token.Symbol (codes "}") (plain_fits 125 _ refl refl refl) (newline_then program l) in
+        let inside = row_lexes around are (guards + length rows) seen body program fits.1 close in
+        let names : List (List ℕ) = p.parameters ++ around in
+        let head : List ℕ = guard_text names rows in
+        lexes_as (guard_lexes around are ws guards rows (row_tree p names body) program fits.0 inside) (sym (append_assoc (head ++ row_text p names body) (codes "}\n") text ∙ append_assoc head (row_text p names body) (codes "}\n" ++ text))) refl
 
     -- a row
-    pub row_lexes : {last : TokenKind} {text : List ℕ} {ws : List Word} (around : List (List ℕ)) (are : AreVariables p.parameters around) (seen : ℕ) (row : Row) → last ≡ token.End → IsReadableRow p around seen row → Lexes last false text ws
+    pub row_lexes : {last : TokenKind} {text : List ℕ} {ws : List Word} (around : List (List ℕ)) (are : AreVariables p.parameters around) (guards seen : ℕ) (row : Row) → last ≡ token.End → IsReadableRow p around guards seen row → Lexes last false text ws
         → Lexes last false (row_text p (p.parameters ++ around) row ++ text) (items_words (row_tree p (p.parameters ++ around) row) ++ ws)
-    row_lexes around are seen done program fits l = l
-    row_lexes around are seen (next item row) program fits l =
-        lexes_as (item_lexes around are seen item program fits.0 (row_lexes around are (item_seen p seen item) row program fits.1 l)) (sym (append_assoc (item_text p (p.parameters ++ around) item) _ _)) (sym (append_assoc (item_words (item_tree p (p.parameters ++ around) item)) _ _))
+    row_lexes around are guards seen done program fits l = l
+    row_lexes around are guards seen (next item row) program fits l =
+        lexes_as (item_lexes around are guards seen item program fits.0 (row_lexes around are guards (item_seen p seen item) row program fits.1 l)) (sym (append_assoc (item_text p (p.parameters ++ around) item) _ _)) (sym (append_assoc (item_words (item_tree p (p.parameters ++ around) item)) _ _))

@@ -6,11 +6,13 @@ pub mod RowForms
 pub mod MeansForms
 pub mod State
 pub mod MeansRefs
+pub mod MeansConditions
 pub mod MeansItems
 pub mod MeansText
 pub mod WordsAre
 pub mod Readable
 pub mod Rows
+pub mod Gathered
 pub mod Among
 pub mod TreeFits
 pub mod Made

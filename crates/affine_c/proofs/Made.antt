@@ -1,15 +1,15 @@
 -- What is made of a reading is a program, and the one that it says, whose statements have short ways to them.
 use Rattle.std.proofs.Common.{◌≡◌, sym, subst, ◌≤◌, ◌<◌, List, [], ◌∷◌, length, map, arith, ℕ, suc, ◌+◌, ◌++◌, length-append, ◌∙◌, ap}
-use Rattle.std.specs.Prelude.{Option, Some, IsSomeAnd, ◌==◌, if◌then◌else◌, Bool, true, false, None, option_map}
+use Rattle.std.specs.Prelude.{Option, Some, IsSomeAnd, ◌==◌, if◌then◌else◌, Bool, true, false, None, option_map, unwrap_or, pos, replicate, ◌-◌}
 use Rattle.std.specs.List.{AllByRecursion, enumerate_from}
 use Rattle.std.proofs.lemmas.List.{length-map}
 use Rattle.iolb_model.specs.Form.{AffineForm}
-use Rattle.iolb_model.specs.Path.{PathStep, bounded, first_of, item_path, row_path}
-use Rattle.affine_form.specs.Form.{IsSmallForm}
-use Rattle.affine_form.specs.Rows.{step_of}
-use Rattle.affine_c.specs.Built.{IsSmallStep, IsShortWay, HasShortWays, AreRowsOver, StandsIn, RunsIn, ArePlaced}
-use Rattle.iolb_model.specs.declared.limits.TheConstants.{LOOPS, NUMBER_SIZE, ARRAYS, PARAMETERS, SUBSCRIPTS}
-use Rattle.iolb_model.specs.Program.{Item, assign, loop, Row, done, next, AffineProgram, Statement as ModelStatement, IsWellFormed}
+use Rattle.iolb_model.specs.Path.{PathStep, bounded, guarded, bounds_on, guards_on, first_of, item_path, row_path}
+use Rattle.affine_form.specs.Form.{variables, IsSmall, IsSmallForm}
+use Rattle.affine_form.specs.Rows.{widened}
+use Rattle.affine_c.specs.Built.{AreSmallBounds, gathered, AreShort, IsShortWay, HasShortWays, AreRowsOver, StandsIn, RunsIn, ArePlaced}
+use Rattle.iolb_model.specs.declared.limits.TheConstants.{LOOPS, GUARDS, NUMBER_SIZE, ARRAYS, PARAMETERS, SUBSCRIPTS}
+use Rattle.iolb_model.specs.Program.{Item, assign, loop, guard, Row, done, next, AffineProgram, Statement as ModelStatement, IsOver, IsWellFormed}
 use Rattle.execution_laws.proofs.Domains.{way-there}
 use Rattle.c_reading.specs.Text.{Reading}
 use Rattle.affine_program.specs.Printable.{IsPrintableItem, IsPrintableRow, IsPrintable}
@@ -18,10 +18,11 @@ use Rattle.c_grammar.specs.Program.{narrowed, statements_in, items_meant, progra
 use Rattle.affine_c.proofs.TreeFits.{statements_counted, program_fits}
 use Rattle.affine_form.specs.System.{AffineSystem}
 use Rattle.affine_program.specs.Limits.{IsStatementWithinLimits}
-use Rattle.affine_program.specs.Parts.{ProgramParts, meaning, statement_of, array_of, IsProgram}
+use Rattle.affine_program.proofs.Bounds.{PathFits, path-fits}
+use Rattle.affine_program.specs.Parts.{ProgramParts, StandOn, meaning, statement_of, array_of, IsProgram}
 use Rattle.affine_program.specs.Tree.{item_of, row_from, row_of}
 use Rattle.affine_c.proofs.Rows.{narrowed_all_small}
-use Rattle.base_laws.proofs.Lists.{All-push, All-weaken}
+use Rattle.base_laws.proofs.Lists.{All-append, All-map, All-push, All-replicate, All-weaken}
 use Rattle.c_reading.specs.Access.{Access, Statement as ReadStatement}
 use Rattle.c_reading.specs.Tree as read
 use Rattle.c_reading.specs.declared.tree.Item.TheVariants.{Assign, rolls-Assign}
@@ -38,73 +39,115 @@ pub rows_there : (reading : Reading) (depth : ℕ) (accesses : List Access) → 
 rows_there reading depth accesses h = All-weaken (IsAccessIn reading depth) (AreRowsOver (length (parameters_of reading)) depth) accesses (λ a is. is.rows) h
 
 -- a statement more stands in the tree
-pub placed_more : (tree : Row) (made new : List Statement) (one : Statement) → ArePlaced tree made → new ≡ made ++ one ∷ [] → StandsIn tree (length made, one) → RunsIn tree (length made, one) → IsStatementWithinLimits one
-    → ArePlaced tree new
-placed_more tree made new one h grown stands runs within = subst (ArePlaced tree) (sym grown) (record {
-  bounds = placed_push (StandsIn tree) 0 made one h.bounds (subst (λ (n : ℕ). StandsIn tree (n, one)) (omega arith) stands);
+pub placed_more : (parameters : ℕ) (tree : Row) (made new : List Statement) (one : Statement) → ArePlaced parameters tree made → new ≡ made ++ one ∷ [] → StandsIn parameters tree (length made, one) → RunsIn tree (length made, one) → IsStatementWithinLimits one
+    → ArePlaced parameters tree new
+placed_more parameters tree made new one h grown stands runs within = subst (ArePlaced parameters tree) (sym grown) (record {
+  ways = placed_push (StandsIn parameters tree) 0 made one h.ways (subst (λ (n : ℕ). StandsIn parameters tree (n, one)) (omega arith) stands);
   directions = placed_push (RunsIn tree) 0 made one h.directions (subst (λ (n : ℕ). RunsIn tree (n, one)) (omega arith) runs);
   limits = All-push IsStatementWithinLimits made one h.limits within;
 })
 
 -- ---- ways and programs
 
--- the bounds on a way of small steps are small
-small_bounds : (bounds : List (AffineForm × AffineForm)) → AllByRecursion IsSmallStep (map step_of bounds) → AllByRecursion (λ b. IsSmallStep (step_of b)) bounds
-small_bounds [] h = tt
-small_bounds (b ∷ bounds) h = (h.0, small_bounds bounds h.1)
+-- what was gathered on a way that is there
+pub gathered-short : (parameters : ℕ) (bounds : List (AffineForm × AffineForm)) (rows : List AffineForm) (way : Option (List PathStep)) → Some (bounds, rows) ≡ option_map gathered way → IsSomeAnd way (IsShortWay parameters)
+    → AreShort parameters bounds rows
+gathered-short parameters bounds rows None e h = absurd h
+gathered-short parameters bounds rows (Some path) e h =
+    let same : gathered path ≡ (bounds, rows) = (let f : Some (bounds, rows) ≡ Some (gathered path) = e in cc) in
+    let first : bounds_on path ≡ bounds = ap (λ (g : List (AffineForm × AffineForm) × List AffineForm). g.0) same in
+    let second : guards_on path ≡ rows = ap (λ (g : List (AffineForm × AffineForm) × List AffineForm). g.1) same in
+    subst (λ (bs : List (AffineForm × AffineForm)). AreShort parameters bs rows) first (subst (AreShort parameters (bounds_on path)) second h)
 
-pub short_bounds : (bounds : List (AffineForm × AffineForm)) (way : Option (List PathStep)) → Some (map step_of bounds) ≡ way → IsSomeAnd way IsShortWay
-    → (length bounds ≤ LOOPS) × AllByRecursion (λ b. IsSmallStep (step_of b)) bounds
-short_bounds bounds way e h =
-    let short : IsShortWay (map step_of bounds) = subst (λ (o : Option (List PathStep)). IsSomeAnd o IsShortWay) (sym e) h in
-    (omega (arith, short.0, length-map bounds step_of), small_bounds bounds short.1)
+-- small forms stay small where they are read over more variables
+widened-small : (vars : ℕ) (form : AffineForm) → IsSmallForm NUMBER_SIZE form → IsSmallForm NUMBER_SIZE (widened vars form)
+widened-small vars form h =
+    let more : ℕ = vars - length form.coefficients in
+    (All-append (IsSmall NUMBER_SIZE) form.coefficients (replicate more (pos 0)) h.0 (All-replicate (IsSmall NUMBER_SIZE) more (pos 0) (omega arith)), h.1)
+
+pub widened-all_small : (vars : ℕ) (forms : List AffineForm) → AllByRecursion (IsSmallForm NUMBER_SIZE) forms → AllByRecursion (IsSmallForm NUMBER_SIZE) (map (widened vars) forms)
+widened-all_small vars forms h = All-map (IsSmallForm NUMBER_SIZE) (widened vars) forms (All-weaken (IsSmallForm NUMBER_SIZE) (λ f. IsSmallForm NUMBER_SIZE (widened vars f)) forms (widened-small vars) h)
 
 pub same_length : {X Y Z : Type 0} (f : X → Z) (g : Y → Z) (xs : List X) (ys : List Y) → map f xs ≡ map g ys → length xs ≡ length ys
 same_length f g xs ys e = omega (arith, length-map xs f, length-map ys g, lengths) where
   lengths : length (map f xs) ≡ length (map g ys)
   lengths = cc
 
--- the way goes on from this depth through few loops with small bounds
-abbrev IsShortFrom : ℕ → List PathStep → Type 0
-IsShortFrom depth path = (depth + length path ≤ LOOPS) × AllByRecursion IsSmallStep path
+-- the way goes on inside so many loops and guards of so many rows through few of both, with small bounds and rows
+record IsShortFrom (depth before : ℕ) (path : List PathStep) : Type 0 where
+  pub few_bounds : depth + length (bounds_on path) ≤ LOOPS
+  pub small_bounds : AllByRecursion AreSmallBounds (bounds_on path)
+  pub few_rows : before + length (guards_on path) ≤ GUARDS
+  pub small_rows : AllByRecursion (IsSmallForm NUMBER_SIZE) (guards_on path)
+
+-- there is a way
+abbrev IsThere : Option (List PathStep) → Type 0
+IsThere way = IsSomeAnd way (λ path. Unit {0})
 
 mutual
-  item_short : (p : AffineProgram) (around : List (List ℕ)) (item : Item) (s : ℕ) → length around ≤ LOOPS → IsPrintableItem p around item → IsSomeAnd (item_path item s) (λ path. Unit {0}) → IsSomeAnd (item_path item s) (IsShortFrom (length around))
-  item_short p around (assign n) s inner fits h = at_statement (n == s) h where
-    at_statement : (b : Bool) → IsSomeAnd {T = List PathStep} (if b then Some [] else None) (λ path. Unit {0}) → IsSomeAnd {T = List PathStep} (if b then Some [] else None) (IsShortFrom (length around))
-    at_statement true h = (omega (arith, inner), tt)
+  item_short : (p : AffineProgram) (around : List (List ℕ)) (guards : ℕ) (item : Item) (s : ℕ) → length around ≤ LOOPS → guards ≤ GUARDS → IsPrintableItem p around guards item → IsThere (item_path item s) → IsSomeAnd (item_path item s) (IsShortFrom (length around) guards)
+  item_short p around guards (assign n) s inner few fits h = at_statement (n == s) h where
+    at_statement : (b : Bool) → IsThere (if b then Some [] else None) → IsSomeAnd {T = List PathStep} (if b then Some [] else None) (IsShortFrom (length around) guards)
+    at_statement true h = record { few_bounds = omega (arith, inner); small_bounds = tt; few_rows = omega (arith, few); small_rows = tt }
     at_statement false h = absurd h
-  item_short p around (loop name direction lower upper body) s inner fits h =
+  item_short p around guards (loop name direction lower upper body) s inner few fits h =
       let more : length (around ++ name ∷ []) ≡ suc (length around) = omega (arith, length-append around (name ∷ [])) in
-      longer more (row_path body s) (row_short p (around ++ name ∷ []) body s (omega (arith, more, fits.0.depth)) fits.1 (inside (row_path body s) h)) where
-        inside : (o : Option (List PathStep)) → IsSomeAnd (option_map (λ path. bounded lower upper ∷ path) o) (λ path. Unit {0}) → IsSomeAnd o (λ path. Unit {0})
+      longer more (row_path body s) (row_short p (around ++ name ∷ []) guards body s (omega (arith, more, fits.0.depth)) few fits.1 (inside (row_path body s) h)) where
+        inside : (o : Option (List PathStep)) → IsThere (option_map (λ path. bounded lower upper ∷ path) o) → IsThere o
         inside None h = h
         inside (Some path) h = h
 
-        longer : length (around ++ name ∷ []) ≡ suc (length around) → (o : Option (List PathStep)) → IsSomeAnd o (IsShortFrom (length (around ++ name ∷ []))) → IsSomeAnd (option_map (λ path. bounded lower upper ∷ path) o) (IsShortFrom (length around))
+        longer : length (around ++ name ∷ []) ≡ suc (length around) → (o : Option (List PathStep)) → IsSomeAnd o (IsShortFrom (length (around ++ name ∷ [])) guards) → IsSomeAnd (option_map (λ path. bounded lower upper ∷ path) o) (IsShortFrom (length around) guards)
         longer e None h = h
-        longer e (Some path) h = (omega (arith, h.0, e), ((fits.0.lower_small, fits.0.upper_small), h.1))
+        longer e (Some path) h = record { few_bounds = omega (arith, h.few_bounds, e); small_bounds = ((fits.0.lower_small, fits.0.upper_small), h.small_bounds); few_rows = h.few_rows; small_rows = h.small_rows }
+  item_short p around guards (guard rows body) s inner few fits h =
+      longer (row_path body s) (row_short p around (guards + length rows) body s inner fits.0.few fits.1 (inside (row_path body s) h)) where
+        inside : (o : Option (List PathStep)) → IsThere (option_map (λ path. guarded rows ∷ path) o) → IsThere o
+        inside None h = h
+        inside (Some path) h = h
 
-  row_short : (p : AffineProgram) (around : List (List ℕ)) (row : Row) (s : ℕ) → length around ≤ LOOPS → IsPrintableRow p around row → IsSomeAnd (row_path row s) (λ path. Unit {0}) → IsSomeAnd (row_path row s) (IsShortFrom (length around))
-  row_short p around done s inner fits h = absurd h
-  row_short p around (next item row) s inner fits h = either (item_path item s) (row_path row s) (item_short p around item s inner fits.0) (row_short p around row s inner fits.1) h where
-    either : (o p : Option (List PathStep)) → (IsSomeAnd o (λ path. Unit {0}) → IsSomeAnd o (IsShortFrom (length around))) → (IsSomeAnd p (λ path. Unit {0}) → IsSomeAnd p (IsShortFrom (length around)))
-        → IsSomeAnd (first_of o p) (λ path. Unit {0}) → IsSomeAnd (first_of o p) (IsShortFrom (length around))
+        longer : (o : Option (List PathStep)) → IsSomeAnd o (IsShortFrom (length around) (guards + length rows)) → IsSomeAnd (option_map (λ path. guarded rows ∷ path) o) (IsShortFrom (length around) guards)
+        longer None h = h
+        longer (Some path) h = record {
+          few_bounds = h.few_bounds;
+          small_bounds = h.small_bounds;
+          few_rows = omega (arith, h.few_rows, length-append rows (guards_on path));
+          small_rows = All-append (IsSmallForm NUMBER_SIZE) rows (guards_on path) fits.0.small h.small_rows;
+        }
+
+  row_short : (p : AffineProgram) (around : List (List ℕ)) (guards : ℕ) (row : Row) (s : ℕ) → length around ≤ LOOPS → guards ≤ GUARDS → IsPrintableRow p around guards row → IsThere (row_path row s) → IsSomeAnd (row_path row s) (IsShortFrom (length around) guards)
+  row_short p around guards done s inner few fits h = absurd h
+  row_short p around guards (next item row) s inner few fits h = either (item_path item s) (row_path row s) (item_short p around guards item s inner few fits.0) (row_short p around guards row s inner few fits.1) h where
+    either : (o p : Option (List PathStep)) → (IsThere o → IsSomeAnd o (IsShortFrom (length around) guards)) → (IsThere p → IsSomeAnd p (IsShortFrom (length around) guards))
+        → IsThere (first_of o p) → IsSomeAnd (first_of o p) (IsShortFrom (length around) guards)
     either None p f g h = g h
     either (Some path) p f g h = f h
 
-short_from_start : (o : Option (List PathStep)) → IsSomeAnd o (IsShortFrom 0) → IsSomeAnd o IsShortWay
-short_from_start None h = h
-short_from_start (Some path) h = (omega (arith, h.0), h.1)
+-- the rows of the guards on a way are over the variables there, which are some of all
+rows_within : (all vars : ℕ) (path : List PathStep) → PathFits vars path → vars + length (bounds_on path) ≤ all → AllByRecursion (λ row. variables row ≤ all) (guards_on path)
+rows_within all vars [] fits few = tt
+rows_within all vars (bounded lower upper ∷ path) fits few = rows_within all (suc vars) path fits.1 (omega (arith, few))
+rows_within all vars (guarded rows ∷ path) fits few =
+    All-append (λ row. variables row ≤ all) rows (guards_on path) (All-weaken (IsOver vars) (λ row. variables row ≤ all) rows (λ row over. omega (arith, over, few)) fits.0) (rows_within all vars path fits.1 few)
 
--- each statement of a well-read text's program stands in few loops
-pub program_has_ways : (r : Reading) → IsWellRead r → HasShortWays (program_of r).tree (statement_count r.items)
+short_from_start : (parameters : ℕ) (o : Option (List PathStep)) → PathFits parameters (unwrap_or o []) → IsSomeAnd o (IsShortFrom 0 0) → IsSomeAnd o (IsShortWay parameters)
+short_from_start parameters None fits h = h
+short_from_start parameters (Some path) fits h = record {
+  few_bounds = omega (arith, h.few_bounds);
+  small_bounds = h.small_bounds;
+  few_rows = omega (arith, h.few_rows);
+  small_rows = h.small_rows;
+  rows_over = rows_within (parameters + length (bounds_on path)) parameters path fits (omega arith);
+}
+
+-- each statement of a well-read text's program stands in few loops and guards
+pub program_has_ways : (r : Reading) → IsWellRead r → HasShortWays (length (parameters_of r)) (program_of r).tree (statement_count r.items)
 program_has_ways r well = record {
   ways = λ s below.
       let program : AffineProgram = program_of r in
       let fits = program_fits r well in
       let there : s < length program.statements = omega (arith, below, statements_counted (length (parameters_of r)) 0 r.items) in
-      short_from_start (row_path program.tree s) (row_short program [] program.tree s (omega arith) fits.1.loops (way-there program s fits.0 there));
+      short_from_start (length (parameters_of r)) (row_path program.tree s) (path-fits program s fits.0) (row_short program [] 0 program.tree s (omega arith) (omega arith) fits.1.loops (way-there program s fits.0 there));
 }
 
 -- the code's item is a statement
@@ -118,18 +161,18 @@ pub record Made (r : Reading) (parts : ProgramParts) : Type 0 where
   pub arrays : parts.arrays ≡ arrays_of r
   pub statements : map statement_of parts.statements ≡ (program_of r).statements
   pub tree : row_of parts.tree ≡ (program_of r).tree
-  pub placed : ArePlaced (row_of parts.tree) parts.statements
+  pub placed : ArePlaced (length (parameters_of r)) (row_of parts.tree) parts.statements
 
 -- so many parameters were read
 pub made_from : (r : Reading) (parts : ProgramParts) (many : ℕ) → many ≡ length (parameters_of r) → parts.params ≡ parameters_of r → parts.assumed ≡ record { vars = many; rows = map (narrowed many 0) r.assumptions } → parts.arrays ≡ arrays_of r
-    → map statement_of parts.statements ≡ statements_in many 0 r.items → map item_of parts.tree ≡ items_meant r.names many 0 0 r.items → ArePlaced (row_of parts.tree) parts.statements → Made r parts
+    → map statement_of parts.statements ≡ statements_in many 0 r.items → map item_of parts.tree ≡ items_meant r.names many 0 0 r.items → ArePlaced many (row_of parts.tree) parts.statements → Made r parts
 made_from r parts many e params assumed arrays statements tree placed = record {
   params = params;
   assumed = assumed ∙ ap (λ n. record { vars = n; rows = map (narrowed n 0) r.assumptions }) e;
   arrays = arrays;
   statements = statements ∙ ap (λ n. statements_in n 0 r.items) e;
   tree = ap row_from tree ∙ ap (λ n. row_from (items_meant r.names n 0 0 r.items)) e;
-  placed = placed;
+  placed = subst (λ (n : ℕ). ArePlaced n (row_of parts.tree) parts.statements) e placed;
 }
 
 pub made_says : (r : Reading) (parts : ProgramParts) → Made r parts → meaning parts ≡ program_of r
@@ -148,7 +191,7 @@ made_program r parts well made =
       well_formed = fits.0;
       printable = fits.1;
       assumed = ap (λ (s : AffineSystem). s.vars) made.assumed ∙ ap (λ (ns : List (List ℕ)). length ns) (sym made.params);
-      bounds = made.placed.bounds;
+      ways = subst (λ (n : ℕ). AllByRecursion (StandsIn n (row_of parts.tree)) (enumerate_from 0 parts.statements)) (ap (λ (ns : List (List ℕ)). length ns) (sym made.params)) made.placed.ways;
       directions = made.placed.directions;
       limits = record {
         parameters = subst (λ (ns : List (List ℕ)). length ns ≤ PARAMETERS) (sym made.params) well.parameters;

@@ -1,47 +1,39 @@
--- What the trees of printed loops and rows mean: themselves.
-use Rattle.std.proofs.Common.{◌≡◌, pos, refl, sym, ap, subst, ◌∙◌, ℕ, zero, suc, ◌+◌, ◌-◌, ◌≤◌, Bool, true, false, List, [], ◌∷◌, ◌++◌, append_assoc, append-nil, length, map, arith, length-append, ⊎_elim, ℤ, take, drop}
+-- What the trees of printed loops, guards and rows mean: themselves.
+use Rattle.std.proofs.Common.{◌≡◌, pos, refl, sym, ap, subst, ◌∙◌, ℕ, zero, suc, ◌+◌, ◌-◌, ◌≤◌, Bool, true, false, List, [], ◌∷◌, ◌++◌, append_assoc, append-nil, length, map, arith, length-append, ⊎_elim, ℤ}
 use Rattle.std.specs.Prelude.{bytes_eq, Some, slice_index_or}
 use Rattle.std.specs.List.{AllByRecursion, list_any, range_with_len}
 use Rattle.iolb_model.specs.Form.{AffineForm}
-use Rattle.iolb_model.specs.Program.{Direction, upward, downward, Item, assign, loop, Row, done, next, AffineProgram, statement_at, IsOver, AccessFits, ItemFits, RowFits, item_statements, row_statements}
+use Rattle.iolb_model.specs.Program.{Direction, upward, downward, Item, assign, loop, guard, Row, done, next, AffineProgram, statement_at, IsOver, AccessFits, ItemFits, RowFits, item_statements, row_statements}
 use Rattle.c_reading.specs.declared.named.Kind.TheVariants.{OpenLoop, ClosedLoop}
 use Rattle.c_reading.specs.declared.tree.Header.{Header as ReadHeader}
 use Rattle.c_reading.specs.Tree as read
 use Rattle.c_reading.specs.Tree.{Item as ReadItem, Items as ReadItems, with_item}
 use Rattle.c_reading.specs.Affine.{with_name}
-use Rattle.c_reading.specs.Compare.{most_brackets}
+use Rattle.c_reading.specs.Compare.{Rows, most_brackets}
 use Rattle.c_reading.specs.Items.{most_statements}
-use Rattle.c_reading.specs.Numbers.{most_parameters, most_loops, width, is_small, combined, zeros}
+use Rattle.c_reading.specs.Numbers.{most_loops, most_guards, is_small, combined, zeros}
 use Rattle.c_reading.specs.Refs.{with_kind}
 use Rattle.c_grammar.specs.Meaning as mean
-use Rattle.c_grammar.specs.Meaning.{Names, affine_means, header_means, loop_by, item_means, items_means, begin, end, statement_means}
+use Rattle.c_grammar.specs.Meaning.{Names, affine_means, compares_mean, header_means, loop_by, item_means, items_means, begin, end, statement_means}
 use Rattle.affine_form.specs.Rows.{direction_of}
 use Rattle.affine_program.specs.Tree.{row_from}
 use Rattle.c_grammar.specs.Well.{item_count, statement_count}
 use Rattle.c_grammar.specs.Program.{narrowed, narrowed_statement, statements_in_item, statements_in, item_meant, items_meant}
 use Rattle.c_grammar.proofs.Kept.{count_more}
-use Rattle.affine_c.specs.Tree.{header_tree, item_tree, row_tree}
-use Rattle.affine_c.proofs.Roles.{padded, widened, widened_statement, IsSmall, HasRoles, IsReadableHeader, IsSmallForm, IsReadableItem, IsReadableRow, item_seen, row_seen, statement_seen, other, role}
+use Rattle.affine_c.specs.Tree.{conditions_tree, header_tree, item_tree, row_tree}
+use Rattle.affine_c.proofs.Roles.{widened, widened_statement, IsSmall, HasRoles, IsReadableHeader, IsSmallForm, IsReadableItem, IsReadableRow, item_seen, row_seen, statement_seen, other, role}
 use Rattle.c_tokens.specs.Names.{IsName}
 use Rattle.base_laws.proofs.Lists.{All-append, All-weaken}
-use Rattle.affine_c.proofs.RowForms.{small_is, form_back, form_statement_back, length-padded}
+use Rattle.affine_c.proofs.RowForms.{small_is, form_back, forms_back, form_statement_back}
 use Rattle.c_grammar.proofs.NameKinds.{place_of, lookup, position-place, kind_of-lookup, place-new, place-more, place-get, lookup-new, lookup-place}
 use Rattle.affine_c.proofs.State.{AreLoops, Knows, named, knows-variables, knows_loop, changed, knows_opened, knows_closed}
 use Rattle.affine_c.proofs.MeansForms.{KnowsVariables, form_means}
+use Rattle.affine_c.proofs.MeansConditions.{length-widened, conditions_mean}
 use Rattle.affine_c.proofs.MeansRefs.{Means, Extends, extends_none, extends_both, short_name, statement_meant}
-use Rattle.std.proofs.lemmas.List.{map-append}
+use Rattle.std.proofs.lemmas.List.{length-map, map-append}
 use Rattle.std.proofs.lemmas.Option.{get_or_from_slice_get}
 use Rattle.c_grammar.proofs.Steps.{means_then, means_given}
 use Rattle.c_grammar.proofs.Forms.{combined_kept}
-
--- ---- bounds
-
--- a row has a number for each variable that may be, and one more
-pub length-widened : (parameters depth : ℕ) (form : AffineForm) → length (widened parameters depth form) ≡ width
-length-widened parameters depth form =
-    let first : List ℤ = padded most_parameters (take parameters form.coefficients) in
-    let second : List ℤ = padded most_loops (take depth (drop parameters form.coefficients)) in
-    omega (arith, length-append first second, length-padded most_parameters (take parameters form.coefficients), length-padded most_loops (take depth (drop parameters form.coefficients)))
 
 -- ---- headers
 
@@ -187,12 +179,12 @@ module _ (p : AffineProgram) (is : HasRoles p) where
     unfolding item_means items_means begin end with_kind
 
     -- a printed item means itself
-    pub item_is_meant : (item : Item) (around : List (List ℕ)) (loops : AreLoops p around) (more brackets seen first : ℕ) (before : ReadItems) (i : Names) → length around + more ≡ most_loops → brackets + length around ≡ most_brackets → Knows p (length p.parameters) around seen first i
-        → first + length (item_statements item) ≤ most_statements → IsReadableItem p around seen item → ItemFits p (length p.parameters + length around) item → item_statements item ≡ range_with_len first (length (item_statements item))
-        → (after : ReadItems) × Means (item_means more brackets before (item_tree p (p.parameters ++ around) item) i) after (AreMeant p around (item_seen p seen item) first (item_statements item) i before after (item ∷ []))
-    item_is_meant (assign number) around loops more zero seen first before i depth nested knows few fits over numbered = absurd (omega (arith, loops.deep))
-    item_is_meant (assign number) around loops more (suc zero) seen first before i depth nested knows few fits over numbered = absurd (omega (arith, loops.deep))
-    item_is_meant (assign number) around loops more (suc (suc brackets)) seen first before i depth nested knows few fits over numbered =
+    pub item_is_meant : (item : Item) (around : List (List ℕ)) (loops : AreLoops p around) (more room brackets guards seen first : ℕ) (before : ReadItems) (i : Names) → length around + more ≡ most_loops → room + guards ≡ most_guards → most_brackets ≤ brackets + length around + guards → Knows p (length p.parameters) around seen first i
+        → first + length (item_statements item) ≤ most_statements → IsReadableItem p around guards seen item → ItemFits p (length p.parameters + length around) item → item_statements item ≡ range_with_len first (length (item_statements item))
+        → (after : ReadItems) × Means (item_means more room brackets before (item_tree p (p.parameters ++ around) item) i) after (AreMeant p around (item_seen p seen item) first (item_statements item) i before after (item ∷ []))
+    item_is_meant (assign number) around loops more room zero guards seen first before i depth rooms nested knows few fits over numbered = absurd (omega (arith, loops.deep))
+    item_is_meant (assign number) around loops more room (suc zero) guards seen first before i depth rooms nested knows few fits over numbered = absurd (omega (arith, loops.deep))
+    item_is_meant (assign number) around loops more room (suc (suc brackets)) guards seen first before i depth rooms nested knows few fits over numbered =
         let P : ℕ = length p.parameters in
         let D : ℕ = length around in
         let meant = statement_meant p around is loops brackets seen first before i (statement_at p number) (omega arith) knows fits in
@@ -215,9 +207,9 @@ module _ (p : AffineProgram) (is : HasRoles p) where
             };
           },
         )
-    item_is_meant (loop name direction lower upper body) around loops zero brackets seen first before i depth nested knows few fits over numbered = absurd (omega (arith, fits.0.depth))
-    item_is_meant (loop name direction lower upper body) around loops (suc more) zero seen first before i depth nested knows few fits over numbered = absurd (omega (arith, fits.0.depth))
-    item_is_meant (loop name direction lower upper body) around loops (suc more) (suc brackets) seen first before i depth nested knows few fits over numbered =
+    item_is_meant (loop name direction lower upper body) around loops zero room brackets guards seen first before i depth rooms nested knows few fits over numbered = absurd (omega (arith, fits.0.depth))
+    item_is_meant (loop name direction lower upper body) around loops (suc more) room zero guards seen first before i depth rooms nested knows few fits over numbered = absurd (omega (arith, rooms, nested, fits.0.depth))
+    item_is_meant (loop name direction lower upper body) around loops (suc more) room (suc brackets) guards seen first before i depth rooms nested knows few fits over numbered =
         let P : ℕ = length p.parameters in
         let D : ℕ = length around in
         let inner : List (List ℕ) = around ++ name ∷ [] in
@@ -233,19 +225,19 @@ module _ (p : AffineProgram) (is : HasRoles p) where
         let at_depth : most_loops - 1 - more ≡ D = omega arith in
         let variables : suc (P + D) ≡ P + length inner = omega arith in
         let over_body : RowFits p (P + length inner) body = subst (λ n. RowFits p n body) variables over.2 in
-        let rows = row_is_meant body inner inner_loops more brackets seen first read.done second (omega arith) (omega arith) knows_second few fits.1 over_body numbered in
+        let rows = row_is_meant body inner inner_loops more room brackets guards seen first read.done second (omega arith) rooms (omega (arith, nested, deeper)) knows_second few fits.1 over_body numbered in
         let k : Names = rows.1.names in
         let t : ReadItem = read.loop l rows.0 in
         let last : Names = changed l.name ClosedLoop k in
         let place_k : place_of name k.names ≡ Some l.name = subst (λ ns. place_of name ns ≡ Some l.name) (sym rows.1.so.names.1) (place-more name j.names rows.1.so.names.0 l.name known.there) in
         let knows_last : Knows p (length p.parameters) around (row_seen p seen body) count last = (knows_closed p is around name fits.0.is_other fits.0.is_new (row_seen p seen body) k.names k.kinds l.name rows.1.so.knows.0 place_k, rows.1.so.knows.1, rows.1.so.knows.2, rows.1.so.knows.3) in
         let body_tree = row_tree p ((p.parameters ++ around) ++ name ∷ []) body in
-        let body_is : items_means more brackets read.done body_tree second ≡ Some (rows.0, k) = ap (λ ns. items_means more brackets read.done (row_tree p ns body) second) (append_assoc p.parameters around (name ∷ [])) ∙ rows.1.is in (
+        let body_is : items_means more room brackets read.done body_tree second ≡ Some (rows.0, k) = ap (λ ns. items_means more room brackets read.done (row_tree p ns body) second) (append_assoc p.parameters around (name ∷ [])) ∙ rows.1.is in (
           with_item before t,
           record {
             names = last;
             is = means_then (header_means brackets (header_tree (p.parameters ++ around) name direction lower upper) i) _ head.1.is
-                (ap (λ d. mean.then_in (items_means more brackets read.done body_tree (changed l.name (OpenLoop d) j)) (λ all. λ s. mean.then_in (end l.name s) (λ _. mean.pure (with_item before (read.loop l all))))) at_depth ∙ means_then (items_means more brackets read.done body_tree second) _ body_is refl);
+                (ap (λ d. mean.then_in (items_means more room brackets read.done body_tree (changed l.name (OpenLoop d) j)) (λ all. λ s. mean.then_in (end l.name s) (λ _. mean.pure (with_item before (read.loop l all))))) at_depth ∙ means_then (items_means more room brackets read.done body_tree second) _ body_is refl);
             so = record {
               knows = knows_last;
               names = extends_both i.names j.names k.names known.names rows.1.so.names;
@@ -267,12 +259,44 @@ module _ (p : AffineProgram) (is : HasRoles p) where
             };
           },
         )
+    item_is_meant (guard [] body) around loops more room brackets guards seen first before i depth rooms nested knows few fits over numbered = absurd (omega (arith, fits.0.some))
+    item_is_meant (guard (form ∷ forms) body) around loops more room zero guards seen first before i depth rooms nested knows few fits over numbered = absurd (omega (arith, rooms, nested, loops.deep))
+    item_is_meant (guard (form ∷ forms) body) around loops more room (suc brackets) guards seen first before i depth rooms nested knows few fits over numbered =
+        let P : ℕ = length p.parameters in
+        let D : ℕ = length around in
+        let conditions : List AffineForm = form ∷ forms in
+        let rows : Rows = map (widened P D) conditions in
+        let many : length rows ≡ length conditions = length-map conditions (widened P D) in
+        let rows_left : ℕ = room - length rows in
+        let names : List (List ℕ) = p.parameters ++ around in
+        let variables : KnowsVariables i p.parameters around = knows-variables p around seen i is loops knows.0 in
+        let meant = conditions_mean brackets room i p.parameters around variables form forms [] fits.0.small (omega (arith, rooms, fits.0.few)) in
+        let inner = row_is_meant body around loops more rows_left brackets (guards + length conditions) seen first read.done i depth (omega (arith, many, rooms, fits.0.few)) (omega (arith, nested)) knows few fits.1 over.1 numbered in
+        let t : ReadItem = read.guard rows inner.0 in (
+          with_item before t,
+          record {
+            names = inner.1.names;
+            is = means_then (compares_mean brackets room [] (conditions_tree names form forms) i) _ meant (means_then (items_means more rows_left brackets read.done (row_tree p names body) i) _ inner.1.is refl);
+            so = record {
+              knows = inner.1.so.knows;
+              names = inner.1.so.names;
+              count = omega (arith, count_more before t, inner.1.so.count);
+              same = λ longer start extends e.
+                  let none : first + 0 ≡ first = omega arith in
+                  let inside : items_meant longer P D (start + statement_count before) inner.0 ≡ row_list body = ap (λ n. items_meant longer P D n inner.0) e ∙ inner.1.so.same longer first extends none in
+                  meant_more longer P D start before t
+                  ∙ ap (λ fs. items_meant longer P D start before ++ guard fs (row_from (items_meant longer P D (start + statement_count before) inner.0)) ∷ []) (forms_back P D conditions is.few_parameters loops.deep over.0)
+                  ∙ ap (λ r. items_meant longer P D start before ++ guard conditions r ∷ []) (ap row_from inside ∙ row_back body);
+              table = statements_more P D before t ∙ ap (λ ss. statements_in P D before ++ ss) inner.1.so.table;
+            };
+          },
+        )
 
     -- a printed row means its items
-    pub row_is_meant : (row : Row) (around : List (List ℕ)) (loops : AreLoops p around) (more brackets seen first : ℕ) (before : ReadItems) (i : Names) → length around + more ≡ most_loops → brackets + length around ≡ most_brackets → Knows p (length p.parameters) around seen first i
-        → first + length (row_statements row) ≤ most_statements → IsReadableRow p around seen row → RowFits p (length p.parameters + length around) row → row_statements row ≡ range_with_len first (length (row_statements row))
-        → (after : ReadItems) × Means (items_means more brackets before (row_tree p (p.parameters ++ around) row) i) after (AreMeant p around (row_seen p seen row) first (row_statements row) i before after (row_list row))
-    row_is_meant done around loops more brackets seen first before i depth nested knows few fits over numbered =
+    pub row_is_meant : (row : Row) (around : List (List ℕ)) (loops : AreLoops p around) (more room brackets guards seen first : ℕ) (before : ReadItems) (i : Names) → length around + more ≡ most_loops → room + guards ≡ most_guards → most_brackets ≤ brackets + length around + guards → Knows p (length p.parameters) around seen first i
+        → first + length (row_statements row) ≤ most_statements → IsReadableRow p around guards seen row → RowFits p (length p.parameters + length around) row → row_statements row ≡ range_with_len first (length (row_statements row))
+        → (after : ReadItems) × Means (items_means more room brackets before (row_tree p (p.parameters ++ around) row) i) after (AreMeant p around (row_seen p seen row) first (row_statements row) i before after (row_list row))
+    row_is_meant done around loops more room brackets guards seen first before i depth rooms nested knows few fits over numbered =
         let counts : first ≡ first + 0 = omega arith in (
           before,
           record {
@@ -287,21 +311,21 @@ module _ (p : AffineProgram) (is : HasRoles p) where
             };
           },
         )
-    row_is_meant (next item row) around loops more brackets seen first before i depth nested knows few fits over numbered =
+    row_is_meant (next item row) around loops more room brackets guards seen first before i depth rooms nested knows few fits over numbered =
         let P : ℕ = length p.parameters in
         let D : ℕ = length around in
         let both : length (item_statements item ++ row_statements row) ≡ length (item_statements item) + length (row_statements row) = length-append (item_statements item) (row_statements row) in
         let split = split_numbers first (item_statements item) (row_statements row) numbered in
         let middle : ℕ = first + length (item_statements item) in
-        let one = item_is_meant item around loops more brackets seen first before i depth nested knows (omega arith) fits.0 over.0 split.0 in
+        let one = item_is_meant item around loops more room brackets guards seen first before i depth rooms nested knows (omega arith) fits.0 over.0 split.0 in
         let j : Names = one.1.names in
-        let rest = row_is_meant row around loops more brackets (item_seen p seen item) middle one.0 j depth nested one.1.so.knows (omega arith) fits.1 over.1 split.1 in
+        let rest = row_is_meant row around loops more room brackets guards (item_seen p seen item) middle one.0 j depth rooms nested one.1.so.knows (omega arith) fits.1 over.1 split.1 in
         let k : Names = rest.1.names in
         let counts : middle + length (row_statements row) ≡ first + length (item_statements item ++ row_statements row) = omega arith in (
           rest.0,
           record {
             names = k;
-            is = means_then (item_means more brackets before (item_tree p (p.parameters ++ around) item) i) _ one.1.is rest.1.is;
+            is = means_then (item_means more room brackets before (item_tree p (p.parameters ++ around) item) i) _ one.1.is rest.1.is;
             so = record {
               knows = subst (λ n. Knows p (length p.parameters) around (row_seen p (item_seen p seen item) row) n k) counts rest.1.so.knows;
               names = extends_both i.names j.names k.names one.1.so.names rest.1.so.names;

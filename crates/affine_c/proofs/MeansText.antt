@@ -1,6 +1,6 @@
 -- The text that prints a program means the program.
-use Rattle.std.proofs.Common.{◌≡◌, refl, sym, ap, subst, ◌∙◌, ℕ, zero, suc, ◌+◌, ◌<◌, ◌≤◌, true, false, List, [], ◌∷◌, ◌++◌, append_assoc, append-nil, length, take, replicate, map, arith, length-append, inl, ℤ, pos, negsuc}
-use Rattle.std.specs.Prelude.{option_map, Option, Some, None, slice_get, nat_le, nat_lt, ◌⊎◌}
+use Rattle.std.proofs.Common.{◌≡◌, refl, sym, ap, subst, ◌∙◌, ℕ, zero, suc, ◌+◌, ◌<◌, ◌≤◌, true, false, List, [], ◌∷◌, ◌++◌, append_assoc, append-nil, length, take, map, arith, length-append, inl, ℤ}
+use Rattle.std.specs.Prelude.{option_map, Option, Some, None, slice_get, nat_lt, ◌⊎◌}
 use Rattle.std.specs.List.{AllByRecursion, range_with_len}
 use Rattle.std.proofs.lemmas.Bool.Decides.{nat_tests}
 use Rattle.affine_program.specs.Parts.{array_of}
@@ -11,25 +11,26 @@ use Rattle.c_reading.specs.declared.named.Kind.{Kind}
 use Rattle.c_reading.specs.declared.named.Kind.TheVariants.{Parameter, ClosedLoop, Array}
 use Rattle.c_reading.specs.Names.{parameters_among, arrays_among}
 use Rattle.c_reading.specs.Affine.{kind_of, with_name, is_short}
-use Rattle.c_reading.specs.Numbers.{most_parameters, most_loops, zeros, plus_times, parameter_slot}
+use Rattle.c_reading.specs.Numbers.{most_parameters, most_loops, most_guards, parameter_slot}
 use Rattle.c_reading.specs.Compare.{Rows, most_brackets, most_rows}
 use Rattle.c_reading.specs.Head.{Head}
 use Rattle.c_reading.specs.Text.{Reading, all_at_least_one, assumptions_of, start_of}
 use Rattle.c_grammar.specs.Meaning as mean
-use Rattle.c_grammar.specs.Meaning.{Names, affine_means, compare_means, slot_by, parameters_mean, compares_mean, lines_mean, items_means, whole_means, text_means}
+use Rattle.c_grammar.specs.Meaning.{Names, compare_means, slot_by, parameters_mean, compares_mean, lines_mean, items_means, whole_means, text_means}
 use Rattle.affine_program.specs.Tree.{row_from}
 use Rattle.c_reading.specs.Tree as read
 use Rattle.c_reading.specs.Tree.{Items as ReadItems}
 use Rattle.c_grammar.specs.Program.{narrowed, statements_in, items_meant, program_of}
-use Rattle.affine_c.specs.Tree.{form_tree, row_tree, parameters_tree, assumption_tree, assumptions_tree, program_tree}
+use Rattle.affine_c.specs.Tree.{condition_tree, row_tree, parameters_tree, assumption_tree, assumptions_tree, program_tree}
 use Rattle.affine_c.proofs.Roles.{widened, IsSmallForm, Role, parameter, array, other, role, HasRoles, row_seen}
 use Rattle.c_tokens.specs.Names.{IsName}
-use Rattle.affine_c.proofs.RowForms.{plus_none, combined-plus, forms_back}
+use Rattle.affine_c.proofs.RowForms.{forms_back}
 use Rattle.c_grammar.proofs.NameKinds.{lookup, kind_of-lookup, lookup-new, lookup-other, parameters-new, arrays-new}
 use Rattle.affine_c.proofs.State.{AreLoops, Knows, KnowsNames, not_seen, one_more_seen, names_differ, named, length-named, knows-variables, take_one_more}
-use Rattle.affine_c.proofs.MeansForms.{KnowsVariables, form_means, terms_means}
+use Rattle.affine_c.proofs.MeansForms.{KnowsVariables}
+use Rattle.affine_c.proofs.MeansConditions.{condition_means}
 use Rattle.affine_c.proofs.MeansRefs.{Means, extends_none, short_name}
-use Rattle.affine_c.proofs.MeansItems.{length-widened, row_back, row_is_meant}
+use Rattle.affine_c.proofs.MeansItems.{row_back, row_is_meant}
 use Rattle.std.proofs.Math.Seq.{take-length}
 use Rattle.c_grammar.proofs.Steps.{means_then}
 use Rattle.std.proofs.lemmas.List.FromFn.{length-range_with_len, fill_by_all}
@@ -111,16 +112,11 @@ longer_head (r ∷ rows) row = refl
 module _ (p : AffineProgram) (is : HasRoles p) (i : Names) (variables : KnowsVariables i p.parameters []) where
   -- a printed assumption means its row
   assumption_means : (form : AffineForm) (rows : Rows) → IsSmallForm (length p.parameters) 0 form → length rows < most_rows
-      → compares_mean rows (assumption_tree p.parameters form) i ≡ Some (rows ++ widened (length p.parameters) 0 form ∷ [], i)
-  unfolding compares_mean compare_means
+      → compares_mean most_brackets most_rows rows (assumption_tree p.parameters form) i ≡ Some (rows ++ widened (length p.parameters) 0 form ∷ [], i)
+  unfolding compares_mean
   assumption_means form rows small few =
-      let row : List ℤ = widened (length p.parameters) 0 form in
-      let below : nat_le (length rows + 1) most_rows ≡ true = grind (arith, nat_tests) in
-      let left_side = subst (λ ns. (h : _) × (affine_means most_brackets (form_tree ns form) i ≡ Some (record { numbers = row; has_name = h }, i))) (append-nil p.parameters) (form_means most_brackets i p.parameters [] form variables small) in
-      let right_side = terms_means most_brackets i [] zeros tt refl in
-      means_then (affine_means most_brackets _ i) _ left_side.1 (means_then (affine_means most_brackets _ i) _ right_side.1
-      (rw below (ap (λ o. mean.given (mean.row_behind rows o) i)
-      (combined-plus (negsuc 0) row zeros ∙ ap (λ n. plus_times (negsuc 0) row (replicate n (pos 0))) (sym (length-widened (length p.parameters) 0 form)) ∙ plus_none (negsuc 0) row small))))
+      subst (λ ns. compare_means most_brackets most_rows rows (condition_tree ns form) i ≡ Some (rows ++ widened (length p.parameters) 0 form ∷ [], i)) (append-nil p.parameters)
+      (condition_means most_brackets most_rows i p.parameters [] variables form rows small few)
 
   -- the printed assumptions mean their rows
   assumptions_mean : (forms : List AffineForm) (rows : Rows) → AllByRecursion (IsSmallForm (length p.parameters) 0) forms → length rows + length forms ≤ most_rows
@@ -129,7 +125,7 @@ module _ (p : AffineProgram) (is : HasRoles p) (i : Names) (variables : KnowsVar
   assumptions_mean [] rows small few = ap (λ r. Some (head_of r, i)) (sym (append-nil rows))
   assumptions_mean (form ∷ forms) rows small few =
       let row : List ℤ = widened (length p.parameters) 0 form in
-      means_then (compares_mean (head_of rows).rows (assumption_tree p.parameters form) i) _ (ap (λ r. compares_mean r (assumption_tree p.parameters form) i) (head_rows rows) ∙ assumption_means form rows small.0 (omega arith))
+      means_then (compares_mean most_brackets most_rows (head_of rows).rows (assumption_tree p.parameters form) i) _ (ap (λ r. compares_mean most_brackets most_rows r (assumption_tree p.parameters form) i) (head_rows rows) ∙ assumption_means form rows small.0 (omega arith))
       (ap (λ h. lines_mean h (assumptions_tree p.parameters forms) i) (longer_head rows row) ∙ assumptions_mean forms (rows ++ row ∷ []) small.1 (omega (arith, length-append rows (row ∷ [])))
       ∙ ap (λ r. Some (head_of r, i)) (append_assoc rows (row ∷ []) (map (widened (length p.parameters) 0) forms)))
 
@@ -196,13 +192,13 @@ module _ (p : AffineProgram) (is : HasRoles p) (well : IsWellFormed p) where
       let j : Names = front.names in
       let none : P ≡ P + 0 = omega arith in
       let many : length (row_statements p.tree) ≡ length p.statements = ap length well.numbered ∙ length-range_with_len 0 (length p.statements) in
-      let body = row_is_meant p is p.tree [] no_loops most_loops most_brackets 0 0 read.done j refl refl front.so (omega (arith, is.few_statements)) is.tree (subst (λ n. program.RowFits p n p.tree) none well.tree) (well.numbered ∙ ap (λ n. range_with_len 0 n) (sym many)) in
+      let body = row_is_meant p is p.tree [] no_loops most_loops most_guards most_brackets 0 0 0 read.done j refl refl (omega arith) front.so (omega (arith, is.few_statements)) is.tree (subst (λ n. program.RowFits p n p.tree) none well.tree) (well.numbered ∙ ap (λ n. range_with_len 0 n) (sym many)) in
       let items : ReadItems = body.0 in
       let k : Names = body.1.names in
       let h : Head = head_of (map (widened P 0) p.assumptions) in
       let s : Reading = record { names = k.names; kinds = k.kinds; assumptions = assumptions_of h k; items = items } in
-      let items_are : items_means most_loops most_brackets read.done (row_tree p p.parameters p.tree) j ≡ Some (items, k) = ap (λ ns. items_means most_loops most_brackets read.done (row_tree p ns p.tree) j) (sym (append-nil p.parameters)) ∙ body.1.is in
-      let meant : whole_means (program_tree p) (start_of [] []) ≡ Some ((h, items), k) = means_then (lines_mean (head_of []) _ (start_of [] [])) _ front.is (means_then (items_means most_loops most_brackets read.done _ j) _ items_are refl) in
+      let items_are : items_means most_loops most_guards most_brackets read.done (row_tree p p.parameters p.tree) j ≡ Some (items, k) = ap (λ ns. items_means most_loops most_guards most_brackets read.done (row_tree p ns p.tree) j) (sym (append-nil p.parameters)) ∙ body.1.is in
+      let meant : whole_means (program_tree p) (start_of [] []) ≡ Some ((h, items), k) = means_then (lines_mean (head_of []) _ (start_of [] [])) _ front.is (means_then (items_means most_loops most_guards most_brackets read.done _ j) _ items_are refl) in
       let knows : Knows p (length p.parameters) [] (row_seen p 0 p.tree) (0 + length (row_statements p.tree)) k = body.1.so.knows in
       let names_are : parameters_among k.names k.kinds ≡ p.parameters = knows.0.parameter_names ∙ take-length p.parameters in
       let same_params : length (parameters_among k.names k.kinds) ≡ P = ap length names_are in

@@ -6,7 +6,7 @@ use Rattle.c_tokens.specs.Text.{tokens_of}
 use Rattle.c_reading.specs.Text.{Reading, reading_of}
 use Rattle.c_grammar.specs.Meaning.{text_means}
 use Rattle.c_grammar.specs.Program.{program_of, Means}
-use Rattle.c_grammar.proofs.RunItems.{spelled}
+use Rattle.c_grammar.proofs.RunText.{spelled}
 use Rattle.c_grammar.proofs.Lexical.{text_lexical}
 use Rattle.affine_c.specs.declared.fault.ProgramFault.{ProgramFault}
 use Rattle.affine_c.specs.Laws.{TextsMeanOneProgram}

@@ -1,6 +1,6 @@
 -- Programs of matrix products are programs.
 use Rattle.std.proofs.Common.{◌≡◌, refl, sym, ◌∙◌, ap, subst, ℕ, zero, suc, ◌+◌, ◌*◌, ◌%◌, ◌^◌, ◌<◌, ◌≤◌, Bool, true, false, List, [], ◌∷◌, ◌++◌, length, map, arith, inl, inr}
-use Rattle.std.specs.Prelude.{◌⊎◌, ◌==◌, nat_lt, Some, IsSomeAnd, slice_get, flat_map, codes, decimal, bytes_eq}
+use Rattle.std.specs.Prelude.{◌⊎◌, ◌==◌, nat_lt, Option, Some, IsSomeAnd, slice_get, flat_map, codes, decimal, bytes_eq}
 use Rattle.std.specs.List.{AllByRecursion, enumerate_from, list_all, list_any, range_with_len}
 use Rattle.std.proofs.lemmas.Bool.{and_parts, cases_Bool, cases_eq}
 use Rattle.std.proofs.lemmas.Bool.Decides.{nat_tests}
@@ -11,7 +11,7 @@ use Rattle.std.proofs.lemmas.Grind.{flat_map-append}
 use Rattle.std.proofs.lemmas.Slice.Eq.{bytes_eq-Decides}
 use Rattle.base_laws.proofs.Lists.{All-weaken}
 use Rattle.iolb_model.specs.Order.{row_common}
-use Rattle.iolb_model.specs.Path.{row_path}
+use Rattle.iolb_model.specs.Path.{PathStep, bounded, row_path}
 use Rattle.iolb_model.specs.Program.{upward, Array, Statement as ModelStatement, AffineProgram, IsWellFormed, AccessFits, StatementFits, RowFits, row_statements, no_statement, statement_at}
 use Rattle.iolb_model.specs.Form.{AffineForm}
 use Rattle.iolb_model.specs.declared.limits.TheConstants.{NUMBER_SIZE, SUBSCRIPTS}
@@ -19,11 +19,12 @@ use Rattle.affine_form.specs.Form.{IsSmallForm}
 use Rattle.c_tokens.specs.Bytes.{is_name_byte}
 use Rattle.affine_program.specs.declared.statement.Statement.{Statement}
 use Rattle.affine_program.specs.Limits.{IsStatementWithinLimits}
-use Rattle.affine_form.specs.Rows.{direction_of, step_of, variable}
-use Rattle.affine_program.specs.Parts.{ProgramParts, IsProgram, meaning, array_of, statement_of}
+use Rattle.affine_form.specs.Rows.{direction_of, variable}
+use Rattle.affine_program.specs.Parts.{ProgramParts, StandOn, IsProgram, meaning, array_of, statement_of}
 use Rattle.affine_program.specs.Printable.{IsPrintable, IsPrintableRow, IsArrayName, AreDifferentArrays, IsOrdered, next_seen, is_array_name, statement_numbers}
 use Rattle.affine_program.specs.Tree.{item_of, row_from}
-use Rattle.affine_c.specs.Products.{last_value, matrix_names, matrices, matrix_cell, product_statement, product_nest, product_program, product_bounds, IsInProductNest, AreProducts}
+use Rattle.affine_c.specs.Built.{StandsIn}
+use Rattle.affine_c.specs.Products.{first_value, last_value, matrix_names, matrices, matrix_cell, product_statement, product_nest, product_program, IsInProductNest, AreProducts}
 
 -- ---- ranges
 
@@ -48,23 +49,30 @@ same-test m n e = grind (arith, nat_tests)
 apart-test : (m n : ℕ) → (m ≡ n → ⊥) → (m == n) ≡ false
 apart-test m n apart = grind (arith, nat_tests)
 
+-- the way through a product's loops
+abbrev pub product_path : List PathStep
+product_path = bounded (first_value 0) (last_value 0) ∷ bounded (first_value 1) (last_value 1) ∷ bounded (first_value 2) (last_value 2) ∷ []
+
 -- the way to each statement
-ways : (a n q : ℕ) → a ≤ q → q < a + n → row_path (row_from (map product_nest (range_with_len a n))) q ≡ Some (map step_of product_bounds)
+pub ways : (a n q : ℕ) → a ≤ q → q < a + n → row_path (row_from (map product_nest (range_with_len a n))) q ≡ Some product_path
 ways a zero q least most = absurd (omega arith)
 ways a (suc n) q least most = by (cases_eq a q) (λ apart. ways (a + 1) n q (omega (arith, least, apart)) (omega (arith, most))) where
-  by : (a ≡ q) ⊎ (a ≡ q → ⊥) → ((a ≡ q → ⊥) → row_path (row_from (map product_nest (range_with_len (a + 1) n))) q ≡ Some (map step_of product_bounds))
-      → row_path (row_from (map product_nest (range_with_len a (suc n)))) q ≡ Some (map step_of product_bounds)
+  by : (a ≡ q) ⊎ (a ≡ q → ⊥) → ((a ≡ q → ⊥) → row_path (row_from (map product_nest (range_with_len (a + 1) n))) q ≡ Some product_path)
+      → row_path (row_from (map product_nest (range_with_len a (suc n)))) q ≡ Some product_path
   by (inl e) rest = let here : (a == q) ≡ true = same-test a q e in rw here refl
   by (inr apart) rest = let here : (a == q) ≡ false = apart-test a q apart in rw here (rest apart)
 
 placed : (n : ℕ) (a : ℕ) (statements : List Statement) → AllByRecursion IsInProductNest statements → a + length statements ≤ n
-    → AllByRecursion (λ (placed : ℕ × Statement). row_path (row_from (map product_nest (range_with_len 0 n))) placed.0 ≡ Some (map step_of placed.1.bounds.items)) (enumerate_from a statements)
+    → AllByRecursion (StandsIn 1 (row_from (map product_nest (range_with_len 0 n)))) (enumerate_from a statements)
 placed n a [] h few = tt
-placed n a (s ∷ statements) h few =
-    (ways 0 n a (omega arith) (omega arith) ∙ ap (λ (bounds : List _). Some (map step_of bounds)) (sym h.0.bounds), placed n (a + 1) statements h.1 (omega arith))
+placed n a (s ∷ statements) h few = (
+  subst (λ (way : Option (List PathStep)). IsSomeAnd way (StandOn (1 + length s.bounds.items) s.bounds.items s.guards.items)) (sym (ways 0 n a (omega arith) (omega arith)))
+      (sym h.0.bounds, sym h.0.guards),
+  placed n (a + 1) statements h.1 (omega arith),
+)
 
 -- and the directions of the loops around it
-directions : (a n q : ℕ) → a ≤ q → q < a + n → row_common (row_from (map product_nest (range_with_len a n))) q q ≡ upward ∷ upward ∷ upward ∷ []
+pub directions : (a n q : ℕ) → a ≤ q → q < a + n → row_common (row_from (map product_nest (range_with_len a n))) q q ≡ upward ∷ upward ∷ upward ∷ []
 directions a zero q least most = absurd (omega arith)
 directions a (suc n) q least most = by (cases_eq a q) (λ apart. directions (a + 1) n q (omega (arith, least, apart)) (omega (arith, most))) where
   by : (a ≡ q) ⊎ (a ≡ q → ⊥) → ((a ≡ q → ⊥) → row_common (row_from (map product_nest (range_with_len (a + 1) n))) q q ≡ upward ∷ upward ∷ upward ∷ [])
@@ -222,7 +230,7 @@ ordered a (suc n) last is = one-product (3 * a) last (statement_numbers (map pro
 
 -- ---- loops
 
-loops : (n : ℕ) (qs : List ℕ) → IsPrintableRow (product_program n) [] (row_from (map product_nest qs))
+loops : (n : ℕ) (qs : List ℕ) → IsPrintableRow (product_program n) [] 0 (row_from (map product_nest qs))
 loops n [] = tt
 loops n (q ∷ qs) = (
   (
@@ -298,8 +306,8 @@ products-are-programs n parts few are =
     record {
       well_formed = subst IsWellFormed (sym means) (well-formed n);
       assumed = ap (λ s. s.vars) are.assumed ∙ ap length (sym are.params);
-      bounds = subst (λ (nests : List _). AllByRecursion (λ (placed : ℕ × Statement). row_path (row_from nests) placed.0 ≡ Some (map step_of placed.1.bounds.items)) (enumerate_from 0 parts.statements)) (sym are.tree)
-          (placed n 0 parts.statements are.nests (omega arith));
+      ways = subst (λ (n : ℕ). AllByRecursion (StandsIn n (row_from (map item_of parts.tree))) (enumerate_from 0 parts.statements)) (sym (ap length are.params))
+          (subst (λ (nests : List _). AllByRecursion (StandsIn 1 (row_from nests)) (enumerate_from 0 parts.statements)) (sym are.tree) (placed n 0 parts.statements are.nests (omega arith)));
       directions = subst (λ (nests : List _). AllByRecursion (λ (placed : ℕ × Statement). row_common (row_from nests) placed.0 placed.0 ≡ map direction_of placed.1.down.items) (enumerate_from 0 parts.statements)) (sym are.tree)
           (running n 0 parts.statements are.nests (omega arith));
       limits = record {

@@ -8,21 +8,21 @@ use Rattle.std.proofs.lemmas.List.FromFn.{length-range_with_len}
 use Rattle.std.proofs.lemmas.Option.{slice_get-map}
 use Rattle.base_laws.proofs.Lists.{All-append, All-map, All-weaken, All-take, All-drop}
 use Rattle.iolb_model.specs.Form.{AffineForm}
-use Rattle.iolb_model.specs.Program.{Direction, Item, assign, loop, Row, done, next, AffineProgram, statement_at, no_statement, AccessFits, ItemFits, RowFits, item_statements, row_statements}
+use Rattle.iolb_model.specs.Program.{Direction, Item, assign, loop, guard, Row, done, next, AffineProgram, statement_at, no_statement, AccessFits, ItemFits, RowFits, item_statements, row_statements}
 use Rattle.iolb_model.specs.Program as program
 use Rattle.iolb_model.specs.declared.limits.TheConstants.{READS, SUBSCRIPTS, NUMBER_SIZE}
 use Rattle.c_tokens.specs.Names.{IsName}
 use Rattle.affine_form.specs.Form.{IsSmallForm as IsSmallNumbers}
 use Rattle.affine_program.specs.Limits.{IsStatementWithinLimits}
 use Rattle.affine_program.specs.Parts.{ProgramParts, access_of, statement_of, array_of, meaning, IsProgram}
-use Rattle.affine_program.specs.Printable.{AreDifferent, is_array_name, AreDifferentArrays, IsArrayName, IsOrdered, access_numbers, statement_numbers, IsPrintableHeader, IsPrintableItem, IsPrintableRow}
+use Rattle.affine_program.specs.Printable.{AreDifferent, is_array_name, AreDifferentArrays, IsArrayName, IsOrdered, access_numbers, statement_numbers, IsPrintableHeader, IsPrintableGuard, IsPrintableItem, IsPrintableRow}
 use Rattle.affine_program.specs.declared.statement.Statement.{Statement}
 use Rattle.c_reading.specs.Numbers.{most_parameters, most_loops}
 use Rattle.c_grammar.proofs.NameKinds.{place_of, bytes_same, All-get}
 use Rattle.c_grammar.specs.Program.{Means}
 use Rattle.affine_c.specs.Text.{program_text}
 use Rattle.affine_c.proofs.WordsAre.{text_means_program}
-use Rattle.affine_c.proofs.Roles.{padded, array, other, role_by, array_role, names_of, role, IsSmall, IsSmallForm, access_seen, accesses_seen, AreReadableAccesses, statement_seen, item_seen, row_seen, IsReadableHeader, IsReadableItem, IsReadableRow, HasRoles}
+use Rattle.affine_c.proofs.Roles.{padded, array, other, role_by, array_role, names_of, role, IsSmall, IsSmallForm, access_seen, accesses_seen, AreReadableAccesses, statement_seen, item_seen, row_seen, IsReadableHeader, IsReadableGuard, IsReadableItem, IsReadableRow, HasRoles}
 use Rattle.affine_c.proofs.State.{among_differ}
 use Rattle.affine_c.proofs.MeansItems.{split_numbers}
 
@@ -130,15 +130,19 @@ module _ (parts : ProgramParts) (is : IsProgram parts) where
     upper_small = small_row (length whole.parameters) (length around) upper h.upper_small;
   }
 
+  -- a guard is readable
+  guard_readable : (around : List (List ℕ)) (guards : ℕ) (rows : List AffineForm) → IsPrintableGuard guards rows → IsReadableGuard whole (length around) guards rows
+  guard_readable around guards rows h = record { some = h.some; few = h.few; small = small_rows (length whole.parameters) (length around) rows h.small }
+
   -- what follows the statements up to this number is in order
   abbrev IsOrderedFrom : ℕ → ℕ → ℕ → Type 0
   IsOrderedFrom seen first last = IsOrdered seen (statement_numbers (drop first whole.statements)) last
 
   mutual
     -- an item is readable
-    item_readable : (item : Item) (around : List (List ℕ)) (seen first last : ℕ) → IsPrintableItem whole around item → ItemFits whole (length whole.parameters + length around) item → item_statements item ≡ range_with_len first (length (item_statements item)) → IsOrderedFrom seen first last
-        → IsReadableItem whole around seen item × IsOrderedFrom (item_seen whole seen item) (first + length (item_statements item)) last
-    item_readable (assign number) around seen first last printable fits numbered order =
+    item_readable : (item : Item) (around : List (List ℕ)) (guards seen first last : ℕ) → IsPrintableItem whole around guards item → ItemFits whole (length whole.parameters + length around) item → item_statements item ≡ range_with_len first (length (item_statements item)) → IsOrderedFrom seen first last
+        → IsReadableItem whole around guards seen item × IsOrderedFrom (item_seen whole seen item) (first + length (item_statements item)) last
+    item_readable (assign number) around guards seen first last printable fits numbered order =
         let here : number ≡ first = cc in
         let s : program.Statement = statement_at whole number in
         let many : length whole.statements ≡ length parts.statements = length-map parts.statements statement_of in
@@ -147,20 +151,23 @@ module _ (parts : ProgramParts) (is : IsProgram parts) where
         let one : suc first ≡ first + 1 = omega arith in
         let split = accesses_readable whole (length around) (s.writes ∷ s.reads) seen last (statement_numbers (drop (suc first) whole.statements)) (fits.writes, fits.reads) (small.writes, small.reads) (subst (λ ss. IsOrdered seen (statement_numbers ss) last) front order) in
         (record { accesses = split.0; few = small.few }, subst (λ n. IsOrderedFrom (statement_seen seen s) n last) one split.1)
-    item_readable (loop name direction lower upper body) around seen first last printable fits numbered order =
+    item_readable (loop name direction lower upper body) around guards seen first last printable fits numbered order =
         let more : length (around ++ name ∷ []) ≡ suc (length around) = omega (arith, length-append around (name ∷ [])) in
         let variables : suc (length whole.parameters + length around) ≡ length whole.parameters + length (around ++ name ∷ []) = omega arith in
-        let rows = row_readable body (around ++ name ∷ []) seen first last printable.1 (subst (λ n. RowFits whole n body) variables fits.2) numbered order in
+        let rows = row_readable body (around ++ name ∷ []) guards seen first last printable.1 (subst (λ n. RowFits whole n body) variables fits.2) numbered order in
         ((header_readable around name lower upper printable.0, rows.0), rows.1)
+    item_readable (guard conditions body) around guards seen first last printable fits numbered order =
+        let rows = row_readable body around (guards + length conditions) seen first last printable.1 fits.1 numbered order in
+        ((guard_readable around guards conditions printable.0, rows.0), rows.1)
 
     -- a row is readable
-    row_readable : (row : Row) (around : List (List ℕ)) (seen first last : ℕ) → IsPrintableRow whole around row → RowFits whole (length whole.parameters + length around) row → row_statements row ≡ range_with_len first (length (row_statements row)) → IsOrderedFrom seen first last
-        → IsReadableRow whole around seen row × IsOrderedFrom (row_seen whole seen row) (first + length (row_statements row)) last
-    row_readable done around seen first last printable fits numbered order = let none : first ≡ first + 0 = omega arith in (tt, subst (λ n. IsOrderedFrom seen n last) none order)
-    row_readable (next item row) around seen first last printable fits numbered order =
+    row_readable : (row : Row) (around : List (List ℕ)) (guards seen first last : ℕ) → IsPrintableRow whole around guards row → RowFits whole (length whole.parameters + length around) row → row_statements row ≡ range_with_len first (length (row_statements row)) → IsOrderedFrom seen first last
+        → IsReadableRow whole around guards seen row × IsOrderedFrom (row_seen whole seen row) (first + length (row_statements row)) last
+    row_readable done around guards seen first last printable fits numbered order = let none : first ≡ first + 0 = omega arith in (tt, subst (λ n. IsOrderedFrom seen n last) none order)
+    row_readable (next item row) around guards seen first last printable fits numbered order =
         let split = split_numbers first (item_statements item) (row_statements row) numbered in
-        let one = item_readable item around seen first last printable.0 fits.0 split.0 order in
-        let rest = row_readable row around (item_seen whole seen item) (first + length (item_statements item)) last printable.1 fits.1 split.1 one.1 in
+        let one = item_readable item around guards seen first last printable.0 fits.0 split.0 order in
+        let rest = row_readable row around guards (item_seen whole seen item) (first + length (item_statements item)) last printable.1 fits.1 split.1 one.1 in
         let counts : first + length (item_statements item) + length (row_statements row) ≡ first + length (item_statements item ++ row_statements row) = omega (arith, length-append (item_statements item) (row_statements row)) in
         ((one.0, rest.0), subst (λ n. IsOrderedFrom (row_seen whole (item_seen whole seen item) row) n last) counts rest.1)
 
@@ -175,7 +182,7 @@ module _ (parts : ProgramParts) (is : IsProgram parts) where
       let none : length whole.parameters ≡ length whole.parameters + 0 = omega arith in
       let statements : length whole.statements ≡ length parts.statements = length-map parts.statements statement_of in
       let many : length (row_statements whole.tree) ≡ length whole.statements = ap length is.well_formed.numbered ∙ length-range_with_len 0 (length whole.statements) in
-      let tree = row_readable whole.tree [] 0 0 (length whole.arrays) is.printable.loops (subst (λ n. RowFits whole n whole.tree) none is.well_formed.tree) (is.well_formed.numbered ∙ ap (range_with_len 0) (sym many)) is.printable.order in
+      let tree = row_readable whole.tree [] 0 0 0 (length whole.arrays) is.printable.loops (subst (λ n. RowFits whole n whole.tree) none is.well_formed.tree) (is.well_formed.numbered ∙ ap (range_with_len 0) (sym many)) is.printable.order in
       let over : drop (0 + length (row_statements whole.tree)) whole.statements ≡ [] = drop_all (0 + length (row_statements whole.tree)) whole.statements (omega (arith, many)) in
       record {
         parameters = is.printable.parameters;

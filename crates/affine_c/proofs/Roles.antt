@@ -1,13 +1,13 @@
 -- What the names of a program stand for, what each part of it is where it is printed, and the rows of its forms.
-use Rattle.std.specs.Prelude.{ℕ, zero, suc, ℤ, pos, List, [], ◌∷◌, ◌++◌, map, take, drop, ◌≡◌, ◌≤◌, ◌<◌, unsigned_abs, false, nat_lt, if◌then◌else◌, length, slice_get, bytes_eq, Option, Some, None, IsSomeAnd, ⊤}
+use Rattle.std.specs.Prelude.{ℕ, zero, suc, ◌+◌, ℤ, pos, List, [], ◌∷◌, ◌++◌, map, take, drop, ◌≡◌, ◌≤◌, ◌<◌, unsigned_abs, false, nat_lt, if◌then◌else◌, length, slice_get, bytes_eq, Option, Some, None, IsSomeAnd, ⊤}
 use Rattle.iolb_model.specs.Form.{AffineForm}
 use Rattle.c_reading.specs.Access.{Access as ReadAccess, Statement as ReadStatement}
 use Rattle.c_reading.specs.Numbers.{most_parameters, most_loops}
 use Rattle.std.specs.List.{list_any, AllByRecursion}
-use Rattle.iolb_model.specs.Program.{Access, Statement, Item, assign, loop, Row, done, next, Array, AffineProgram, statement_at, row_statements}
+use Rattle.iolb_model.specs.Program.{Access, Statement, Item, assign, loop, guard, Row, done, next, Array, AffineProgram, statement_at, row_statements}
 use Rattle.c_tokens.specs.Names.{IsName}
 use Rattle.c_grammar.proofs.NameKinds.{place_of}
-use Rattle.iolb_model.specs.declared.limits.TheConstants.{NUMBER_SIZE, PARAMETERS, LOOPS, ARRAYS, SUBSCRIPTS, READS, ASSUMPTIONS, STATEMENTS}
+use Rattle.iolb_model.specs.declared.limits.TheConstants.{NUMBER_SIZE, PARAMETERS, LOOPS, GUARDS, ARRAYS, SUBSCRIPTS, READS, ASSUMPTIONS, STATEMENTS}
 
 -- so many of these numbers, and 0 for those that aren't there
 abbrev pub padded : ℕ → List ℤ → List ℤ
@@ -104,6 +104,7 @@ abbrev mutual
   pub item_seen : AffineProgram → ℕ → Item → ℕ
   item_seen p seen (assign number) = statement_seen seen (statement_at p number)
   item_seen p seen (loop name direction lower upper body) = row_seen p seen body
+  item_seen p seen (guard rows body) = row_seen p seen body
 
   -- behind a row
   pub row_seen : AffineProgram → ℕ → Row → ℕ
@@ -119,18 +120,26 @@ pub record IsReadableHeader (p : AffineProgram) (around : List (List ℕ)) (name
   pub lower_small : IsSmallForm (length p.parameters) (length around) lower
   pub upper_small : IsSmallForm (length p.parameters) (length around) upper
 
--- an item and a row inside loops of these names, where so many arrays were seen
+-- a guard's rows inside so many loops and guards of so many rows: there is one, and they are small and not too many
+pub record IsReadableGuard (p : AffineProgram) (depth guards : ℕ) (rows : List AffineForm) : Type 0 where
+  pub some : 0 < length rows
+  pub few : guards + length rows ≤ GUARDS
+  pub small : AllByRecursion (IsSmallForm (length p.parameters) depth) rows
+
+-- an item and a row inside loops of these names and guards of so many rows, where so many arrays were seen
 abbrev mutual
   -- an item
-  pub IsReadableItem : AffineProgram → List (List ℕ) → ℕ → Item → Type 0
-  IsReadableItem p around seen (assign number) = IsReadableStatement p (length around) seen (statement_at p number)
-  IsReadableItem p around seen (loop name direction lower upper body) =
-      IsReadableHeader p around name lower upper × IsReadableRow p (around ++ name ∷ []) seen body
+  pub IsReadableItem : AffineProgram → List (List ℕ) → ℕ → ℕ → Item → Type 0
+  IsReadableItem p around guards seen (assign number) = IsReadableStatement p (length around) seen (statement_at p number)
+  IsReadableItem p around guards seen (loop name direction lower upper body) =
+      IsReadableHeader p around name lower upper × IsReadableRow p (around ++ name ∷ []) guards seen body
+  IsReadableItem p around guards seen (guard rows body) =
+      IsReadableGuard p (length around) guards rows × IsReadableRow p around (guards + length rows) seen body
 
   -- a row
-  pub IsReadableRow : AffineProgram → List (List ℕ) → ℕ → Row → Type 0
-  IsReadableRow p around seen done = ⊤
-  IsReadableRow p around seen (next item row) = IsReadableItem p around seen item × IsReadableRow p around (item_seen p seen item) row
+  pub IsReadableRow : AffineProgram → List (List ℕ) → ℕ → ℕ → Row → Type 0
+  IsReadableRow p around guards seen done = ⊤
+  IsReadableRow p around guards seen (next item row) = IsReadableItem p around guards seen item × IsReadableRow p around guards (item_seen p seen item) row
 
 -- ---- programs
 
@@ -147,5 +156,5 @@ pub record HasRoles (p : AffineProgram) : Type 0 where
   pub some_assumptions : 0 < length p.parameters → 0 < length p.assumptions
   pub assumptions : AllByRecursion (IsSmallForm (length p.parameters) 0) p.assumptions
   pub few_statements : length (row_statements p.tree) ≤ STATEMENTS
-  pub tree : IsReadableRow p [] 0 p.tree
+  pub tree : IsReadableRow p [] 0 0 p.tree
   pub seen : row_seen p 0 p.tree ≡ length p.arrays

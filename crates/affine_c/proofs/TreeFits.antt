@@ -20,7 +20,8 @@ use Rattle.c_grammar.specs.Well.{IsAccessIn, IsStatementIn, IsItemIn, AreItemsIn
 use Rattle.affine_program.specs.Tree.{row_from}
 use Rattle.c_grammar.specs.Program.{narrowed, narrowed_access, narrowed_statement, statements_in_item, statements_in, item_meant, items_meant, program_of}
 use Rattle.std.proofs.Math.Seq.{drop-append_seam}
-use Rattle.affine_c.proofs.Rows.{All-mapped, narrowed_over, narrowed_small, narrowed_all_over}
+use Rattle.affine_c.specs.Built.{IsItemInside, AreItemsInside}
+use Rattle.affine_c.proofs.Rows.{All-mapped, narrowed_over, narrowed_small, narrowed_all_small, narrowed_all_over}
 use Rattle.affine_c.proofs.Among.{none_any, among, is_parameter, is_array, parameters-among, arrays-among, distinct-different, among_differs, among_all, among_none, Found, among_found, different_arrays, all_named}
 use Rattle.affine_c.proofs.Roles.{names_of}
 use Rattle.affine_c.proofs.Readable.{array_names}
@@ -61,6 +62,19 @@ statement_fits r depth number s rest few inner is e =
           (All-mapped (narrowed_access p depth) (AccessFits (program_of r) (p + depth)) (IsAccessIn r depth) (λ a fits. access_fits r depth a few inner fits) s.reads is.reads);
     }
 
+-- ---- items inside guards
+
+-- what is well read inside guards of so many rows fits inside any
+mutual
+  item_inside : (r : Reading) (depth guards : ℕ) (i : ReadItem) → IsItemIn r depth guards i → IsItemInside r depth i
+  item_inside r depth guards (read.assign s) is = is
+  item_inside r depth guards (read.loop h body) is = (is.0, is.1, is.2, is.3, items_inside r (suc depth) guards body is.4)
+  item_inside r depth guards (read.guard rows body) is = (is.2, items_inside r depth (guards + length rows) body is.3)
+
+  pub items_inside : (r : Reading) (depth guards : ℕ) (items : ReadItems) → AreItemsIn r depth guards items → AreItemsInside r depth items
+  items_inside r depth guards read.done is = tt
+  items_inside r depth guards (read.next i items) is = (item_inside r depth guards i is.0, items_inside r depth guards items is.1)
+
 -- ---- the statements of items
 
 -- as many as they count
@@ -68,6 +82,7 @@ mutual
   item_counted : (p depth : ℕ) (i : ReadItem) → length (statements_in_item p depth i) ≡ item_count i
   item_counted p depth (read.assign s) = refl
   item_counted p depth (read.loop h body) = statements_counted p (suc depth) body
+  item_counted p depth (read.guard rows body) = statements_counted p depth body
 
   pub statements_counted : (p depth : ℕ) (items : ReadItems) → length (statements_in p depth items) ≡ statement_count items
   statements_counted p depth read.done = refl
@@ -89,6 +104,7 @@ mutual
   item_numbers_are : (p depth : ℕ) (i : ReadItem) → statement_numbers (statements_in_item p depth i) ≡ item_numbers i
   item_numbers_are p depth (read.assign s) = ap (λ ns. s.writes.array ∷ ns) (append-nil (access_numbers (map (narrowed_access p depth) s.reads)) ∙ numbers_mapped p depth s.reads)
   item_numbers_are p depth (read.loop h body) = numbers_are p (suc depth) body
+  item_numbers_are p depth (read.guard rows body) = numbers_are p depth body
 
   numbers_are : (p depth : ℕ) (items : ReadItems) → statement_numbers (statements_in p depth items) ≡ items_numbers items
   numbers_are p depth read.done = refl
@@ -148,28 +164,28 @@ module _ (r : Reading) (well : IsWellRead r) where
   -- ---- items and rows
 
   -- an item fits, is printable, and has the numbers of so many statements
-  pub record IsFine (around : List (List ℕ)) (depth number : ℕ) (i : ReadItem) : Type 0 where
+  pub record IsFine (around : List (List ℕ)) (depth guards number : ℕ) (i : ReadItem) : Type 0 where
     pub fits : ItemFits program (count + depth) (item_meant r.names count depth number i)
-    pub printable : IsPrintableItem program around (item_meant r.names count depth number i)
+    pub printable : IsPrintableItem program around guards (item_meant r.names count depth number i)
     pub numbers : item_statements (item_meant r.names count depth number i) ≡ range_with_len number (item_count i)
 
   -- a row
-  pub record AreFine (around : List (List ℕ)) (depth number : ℕ) (items : ReadItems) : Type 0 where
+  pub record AreFine (around : List (List ℕ)) (depth guards number : ℕ) (items : ReadItems) : Type 0 where
     pub fits : RowFits program (count + depth) (row_from (items_meant r.names count depth number items))
-    pub printable : IsPrintableRow program around (row_from (items_meant r.names count depth number items))
+    pub printable : IsPrintableRow program around guards (row_from (items_meant r.names count depth number items))
     pub numbers : row_statements (row_from (items_meant r.names count depth number items)) ≡ range_with_len number (statement_count items)
 
   mutual
-    item_fine : (around : List (List ℕ)) (stack : List ℕ) (depth number : ℕ) (i : ReadItem) (rest : List Statement) → length around ≡ depth → depth ≤ LOOPS → AllByRecursion (IsAround stack) around → IsItemIn r depth i → IsNested r.kinds stack i
-        → drop number program.statements ≡ statements_in_item count depth i ++ rest → IsFine around depth number i
-    item_fine around stack depth number (read.assign s) rest e inner names is nested table = record { fits = statement_fits r depth number s rest well.parameters inner is table; printable = tt; numbers = refl }
-    item_fine around stack depth number (read.loop h body) rest e inner names is nested table =
+    item_fine : (around : List (List ℕ)) (stack : List ℕ) (depth guards number : ℕ) (i : ReadItem) (rest : List Statement) → length around ≡ depth → depth ≤ LOOPS → AllByRecursion (IsAround stack) around → IsItemIn r depth guards i → IsNested r.kinds stack i
+        → drop number program.statements ≡ statements_in_item count depth i ++ rest → IsFine around depth guards number i
+    item_fine around stack depth guards number (read.assign s) rest e inner names is nested table = record { fits = statement_fits r depth number s rest well.parameters inner is table; printable = tt; numbers = refl }
+    item_fine around stack depth guards number (read.loop h body) rest e inner names is nested table =
         let name : List ℕ = slice_index_or r.names h.name [] in
         let there : slice_get r.names h.name ≡ Some name = slice_get-get_or r.names h.name [] is.0 in
         let kind_of = nested.0 in
         let neither = loop_no_parameter kind_of.0 kind_of.2 in
         let inside : AllByRecursion (IsAround (h.name ∷ stack)) (around ++ name ∷ []) = All-append (IsAround (h.name ∷ stack)) around (name ∷ []) (All-weaken (IsAround stack) (IsAround (h.name ∷ stack)) around (λ n i. (i.0, suc i.1, i.2, i.3)) names) ((h.name, 0, there, refl), tt) in
-        let rows = items_fine (around ++ name ∷ []) (h.name ∷ stack) (suc depth) number body rest (omega (arith, e, length-append around (name ∷ []))) (omega (arith, is.1)) inside is.4 nested.2 table in
+        let rows = items_fine (around ++ name ∷ []) (h.name ∷ stack) (suc depth) guards number body rest (omega (arith, e, length-append around (name ∷ []))) (omega (arith, is.1)) inside is.4 nested.2 table in
         let one_more : count + suc depth ≡ suc (count + depth) = omega arith in
         record {
           fits = (
@@ -191,16 +207,28 @@ module _ (r : Reading) (well : IsWellRead r) where
           );
           numbers = rows.numbers;
         }
+    item_fine around stack depth guards number (read.guard conditions body) rest e inner names is nested table =
+        let rows = items_fine around stack depth (guards + length conditions) number body rest e inner names is.3 nested table in
+        let many : length (map (narrowed count depth) conditions) ≡ length conditions = length-map conditions (narrowed count depth) in
+        let body_row = row_from (items_meant r.names count depth number body) in
+        record {
+          fits = (narrowed_all_over count depth conditions well.parameters inner is.2, rows.fits);
+          printable = (
+            record { some = omega (arith, many, is.0); few = omega (arith, many, is.1); small = narrowed_all_small count depth conditions is.2 },
+            subst (λ (n : ℕ). IsPrintableRow program around n body_row) (ap (λ (n : ℕ). guards + n) (sym many)) rows.printable,
+          );
+          numbers = rows.numbers;
+        }
 
-    items_fine : (around : List (List ℕ)) (stack : List ℕ) (depth number : ℕ) (items : ReadItems) (rest : List Statement) → length around ≡ depth → depth ≤ LOOPS → AllByRecursion (IsAround stack) around → AreItemsIn r depth items → AreNested r.kinds stack items
-        → drop number program.statements ≡ statements_in count depth items ++ rest → AreFine around depth number items
-    items_fine around stack depth number read.done rest e inner names is nested table = record { fits = tt; printable = tt; numbers = refl }
-    items_fine around stack depth number (read.next i items) rest e inner names is nested table =
+    items_fine : (around : List (List ℕ)) (stack : List ℕ) (depth guards number : ℕ) (items : ReadItems) (rest : List Statement) → length around ≡ depth → depth ≤ LOOPS → AllByRecursion (IsAround stack) around → AreItemsIn r depth guards items → AreNested r.kinds stack items
+        → drop number program.statements ≡ statements_in count depth items ++ rest → AreFine around depth guards number items
+    items_fine around stack depth guards number read.done rest e inner names is nested table = record { fits = tt; printable = tt; numbers = refl }
+    items_fine around stack depth guards number (read.next i items) rest e inner names is nested table =
         let split : drop number program.statements ≡ statements_in_item count depth i ++ (statements_in count depth items ++ rest) = table ∙ append_assoc (statements_in_item count depth i) (statements_in count depth items) rest in
-        let first = item_fine around stack depth number i (statements_in count depth items ++ rest) e inner names is.0 nested.0 split in
+        let first = item_fine around stack depth guards number i (statements_in count depth items ++ rest) e inner names is.0 nested.0 split in
         let behind : drop (number + item_count i) program.statements ≡ statements_in count depth items ++ rest =
         ap (λ (n : ℕ). drop (number + n) program.statements) (sym (item_counted count depth i)) ∙ left_behind program.statements (statements_in_item count depth i) (statements_in count depth items ++ rest) number split in
-        let others = items_fine around stack depth (number + item_count i) items rest e inner names is.1 nested.1 behind in
+        let others = items_fine around stack depth guards (number + item_count i) items rest e inner names is.1 nested.1 behind in
         let items_row = row_from (items_meant r.names count depth (number + item_count i) items) in
         record {
           fits = (first.fits, others.fits);
@@ -216,7 +244,7 @@ program_fits r well =
     let p = length (parameters_of r) in
     let program : AffineProgram = program_of r in
     let differs = differ r well in
-    let fine = items_fine r well [] [] 0 0 r.items [] refl (omega arith) tt well.items well.nested (sym (append-nil (statements_in p 0 r.items))) in
+    let fine = items_fine r well [] [] 0 0 0 r.items [] refl (omega arith) tt well.items well.nested (sym (append-nil (statements_in p 0 r.items))) in
     let none : p + 0 ≡ p = omega arith in
     let found : (k : ℕ) (name : List ℕ) → slice_get (names_of program.arrays) k ≡ Some name → IsName name × (list_any (bytes_eq name) program.parameters ≡ false) =
     λ (k : ℕ) (name : List ℕ) (e : slice_get (names_of program.arrays) k ≡ Some name).

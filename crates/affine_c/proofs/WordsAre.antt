@@ -19,9 +19,9 @@ use Rattle.iolb_model.specs.Form.{AffineForm}
 use Rattle.iolb_model.specs.Printed.{form_text}
 use Rattle.iolb_model.specs.Program.{AffineProgram, IsWellFormed}
 use Rattle.c_tokens.specs.Names.{IsName}
-use Rattle.c_grammar.specs.Affine.{affine_words}
+use Rattle.c_grammar.specs.Affine.{affine_words, compares_words}
 use Rattle.c_grammar.specs.Item.{items_words}
-use Rattle.c_grammar.specs.Text.{line_none, compares_words, lines_words, text_words}
+use Rattle.c_grammar.specs.Text.{line_none, lines_words, text_words}
 use Rattle.c_grammar.specs.Program.{Means}
 use Rattle.affine_c.specs.Text.{row_text, parameters_text, assumption_pragma, program_text}
 use Rattle.affine_c.specs.Tree.{form_tree, row_tree, parameters_tree, assumption_tree, assumptions_tree, program_tree}
@@ -281,7 +281,7 @@ words_are p is =
     let are : AreVariables ps [] = are_variables p is [] tt (omega arith) in
     let ends : Lexes End false [] (program_end ∷ []) = record { pieces = end End ∷ []; text_is = refl; words_are = refl; lexed = (refl, refl, λ e. refl) } in
     let none : ps ++ [] ≡ ps = append-nil ps in
-    let body = lexes_as (row_lexes p is [] are 0 p.tree refl is.tree ends) (ap (λ ns. row_text p ns p.tree ++ []) none ∙ append-nil (row_text p ps p.tree)) (ap (λ ns. items_words (row_tree p ns p.tree) ++ (program_end ∷ [])) none) in
+    let body = lexes_as (row_lexes p is [] are 0 0 p.tree refl is.tree ends) (ap (λ ns. row_text p ns p.tree ++ []) none ∙ append-nil (row_text p ps p.tree)) (ap (λ ns. items_words (row_tree p ns p.tree) ++ (program_end ∷ [])) none) in
     let scop : List ℕ = codes "#pragma scop" ++ 10 ∷ (text_in body.pieces ++ tail) in
     let first = passes_parameters 0 ps (flat_map (assumption_pragma ps) p.assumptions ++ scop) is.parameters in
     let passes = passes_both first (passes_assumptions (0 + first.count) ps p.assumptions scop are is.assumptions) in

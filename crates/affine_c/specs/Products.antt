@@ -57,10 +57,11 @@ product_program products = record {
 abbrev pub product_bounds : List (AffineForm × AffineForm)
 product_bounds = (first_value 0, last_value 0) ∷ (first_value 1, last_value 1) ∷ (first_value 2, last_value 2) ∷ []
 
--- a statement in these loops, which run upward, within the limits
+-- a statement in these loops, which run upward, and in no guards, within the limits
 pub record IsInProductNest (statement : Statement) : Type 0 where
   pub bounds : statement.bounds.items ≡ product_bounds
   pub down : statement.down.items ≡ false ∷ false ∷ false ∷ []
+  pub guards : statement.guards.items ≡ []
   pub limits : IsStatementWithinLimits statement
 
 -- parts that are so many products

@@ -2,7 +2,7 @@
 use Rattle.std.specs.Prelude.{ℕ, List, [], ◌∷◌, ◌++◌, flat_map, slice_index_or, codes}
 use Rattle.std.specs.List.{join_by}
 use Rattle.iolb_model.specs.Form.{AffineForm}
-use Rattle.iolb_model.specs.Program.{Direction, upward, downward, Access, Statement, Item, assign, loop, Row, done, next, AffineProgram, statement_at}
+use Rattle.iolb_model.specs.Program.{Direction, upward, downward, Access, Statement, Item, assign, loop, guard, Row, done, next, AffineProgram, statement_at}
 use Rattle.iolb_model.specs.Printed.{form_text}
 
 -- a subscript in brackets
@@ -36,11 +36,20 @@ header_text names name downward lower upper =
     codes "for (" ++ name ++ codes " = " ++ form_text names upper ++ codes "; " ++ name ++ codes " >= " ++ form_text names lower
     ++ codes "; " ++ name ++ codes "--) {\n"
 
+-- a row of a guard, which is to be at least 0
+abbrev pub condition_text : List (List ℕ) → AffineForm → List ℕ
+condition_text names row = form_text names row ++ codes " >= 0"
+
+-- what a guard begins with, on a line: all its rows
+abbrev pub guard_text : List (List ℕ) → List AffineForm → List ℕ
+guard_text names rows = codes "if (" ++ join_by (condition_text names) (codes " && ") rows ++ codes ") {\n"
+
 -- an item and a row, where the parameters and the loops around have these names
 abbrev mutual
   pub item_text : AffineProgram → List (List ℕ) → Item → List ℕ
   item_text program names (assign number) = statement_text program names (statement_at program number)
   item_text program names (loop name direction lower upper body) = header_text names name direction lower upper ++ row_text program (names ++ name ∷ []) body ++ codes "}\n"
+  item_text program names (guard rows body) = guard_text names rows ++ row_text program names body ++ codes "}\n"
 
   pub row_text : AffineProgram → List (List ℕ) → Row → List ℕ
   row_text program names done = []

@@ -1,9 +1,9 @@
 -- The syntax tree of a printed program.
 use Rattle.std.specs.Prelude.{ℕ, ◌==◌, if◌then◌else◌, ℤ, unsigned_abs, Bool, true, false, List, [], ◌∷◌, ◌++◌, codes, decimal, zip}
 use Rattle.iolb_model.specs.Form.{AffineForm}
-use Rattle.iolb_model.specs.Program.{Direction, upward, downward, Access, Statement, Item, assign, loop, Row, done, next, AffineProgram, statement_at}
+use Rattle.iolb_model.specs.Program.{Direction, upward, downward, Access, Statement, Item, assign, loop, guard, Row, done, next, AffineProgram, statement_at}
 use Rattle.iolb_model.specs.Printed.{is_below_zero, nonzero}
-use Rattle.c_grammar.specs.Affine.{Affine, sum, Sums, sum_end, plus, minus, Term, product, product_end, times, Factor, integer, negative, at_least, Subscripts, subscript_end, subscript, Reference}
+use Rattle.c_grammar.specs.Affine.{Affine, sum, Sums, sum_end, plus, minus, Term, product, product_end, times, Factor, integer, negative, at_least, Subscripts, subscript_end, subscript, Compare, Compares, last_compare, compare, Reference}
 use Rattle.c_grammar.specs.Affine as affine
 use Rattle.c_grammar.specs.Value as value
 use Rattle.c_grammar.specs.Item as item
@@ -93,11 +93,26 @@ header_tree names name downward lower upper = record {
   step = item.name_plus_plus;
 }
 
+-- a form that is to be at least 0
+abbrev pub condition_tree : List (List ℕ) → AffineForm → Compare
+condition_tree names row = record { left = form_tree names row; comparison = at_least; right = terms_tree [] }
+
+-- the rows of a guard, of which this is the first
+abbrev pub conditions_tree : List (List ℕ) → AffineForm → List AffineForm → Compares
+conditions_tree names row [] = last_compare (condition_tree names row)
+conditions_tree names row (other ∷ rows) = compare (condition_tree names row) (conditions_tree names other rows)
+
+-- a guard around items
+abbrev pub guard_tree : List (List ℕ) → List AffineForm → item.Items → item.Item
+guard_tree names [] items = item.block items
+guard_tree names (row ∷ rows) items = item.guarded (conditions_tree names row rows) (item.block items)
+
 -- an item and a row, where the parameters and the loops around have these names
 abbrev mutual
   pub item_tree : AffineProgram → List (List ℕ) → Item → item.Item
   item_tree program names (assign number) = item.statement (statement_tree program names (statement_at program number))
   item_tree program names (loop name direction lower upper body) = item.loop (header_tree names name direction lower upper) (item.block (row_tree program (names ++ name ∷ []) body))
+  item_tree program names (guard rows body) = guard_tree names rows (row_tree program names body)
 
   pub row_tree : AffineProgram → List (List ℕ) → Row → item.Items
   row_tree program names done = item.item_end
@@ -109,8 +124,8 @@ parameters_tree [] more = more
 parameters_tree (name ∷ names) more = text.parameters (codes "#pragma iolb param") (name ∷ names) more
 
 -- an assumption
-abbrev pub assumption_tree : List (List ℕ) → AffineForm → text.Compares
-assumption_tree names row = text.last_compare (record { left = form_tree names row; comparison = at_least; right = terms_tree [] })
+abbrev pub assumption_tree : List (List ℕ) → AffineForm → Compares
+assumption_tree names row = last_compare (condition_tree names row)
 
 -- the lines that assume
 abbrev pub assumptions_tree : List (List ℕ) → List AffineForm → text.Lines

@@ -1,12 +1,13 @@
 //! Items, printed.
 
-ghost use Rattle.std.specs.Prelude.{◌≡◌, ◌++◌, codes, length, OnOk};
+ghost use Rattle.std.specs.Prelude.{◌≡◌, ◌++◌, codes, flat_map, length, OnOk};
+ghost use Rattle.std.specs.List.{AllByRecursion, join_by};
 ghost use Rattle.iolb_model.specs.Printed.{form_text};
 ghost use Rattle.iolb_model.specs.Program.{IsOver, ItemFits, RowFits};
 ghost use Rattle.affine_form.specs.Rows.{direction_of};
 ghost use Rattle.affine_program.specs.Parts.{meaning};
 ghost use Rattle.affine_program.specs.Tree.{item_of, row_of};
-ghost use Rattle.affine_c.specs.Text.{header_text, item_text, row_text};
+ghost use Rattle.affine_c.specs.Text.{condition_text, guard_text, header_text, item_text, row_text};
 
 use crate::references::push_statement;
 use affine_form::{Form, Memory, Name};
@@ -55,6 +56,12 @@ fn push_item(
             push_header(alloc, text, names, name, *down, lower, upper)?;
             let inner = with_name(alloc, names, name)?;
             push_items(alloc, text, program, inner.as_slice(), body)?;
+            text.extend_from_slice(b"}\n")?;
+            Ok(())
+        }
+        Item::Guard { rows, body } => {
+            push_guard(alloc, text, names, rows)?;
+            push_items(alloc, text, program, names, body)?;
             text.extend_from_slice(b"}\n")?;
             Ok(())
         }
@@ -113,5 +120,70 @@ fn push_bound(
     text.extend_from_slice(name.bytes())?;
     text.extend_from_slice(sign)?;
     text.extend_from_slice(form.text(alloc, names)?.as_slice())?;
+    Ok(())
+}
+
+/// What a guard of these rows begins with, written on a line at the end.
+fn push_guard(
+    alloc: Global,
+    text: &mut Vec<u8>,
+    names: &[Name],
+    rows: &[Form],
+) -> Result<(), Memory>
+    requires { AllByRecursion (IsOver (length names.now)) rows.now }
+    ensures { OnOk result (text.new.items ≡ text.old.items ++ guard_text names.now rows.now) }
+{
+    text.extend_from_slice(b"if (")?;
+    push_conditions(alloc, text, names, rows)?;
+    text.extend_from_slice(b") {\n")?;
+    Ok(())
+}
+
+/// The rows of a guard, written at the end.
+fn push_conditions(
+    alloc: Global,
+    text: &mut Vec<u8>,
+    names: &[Name],
+    rows: &[Form],
+) -> Result<(), Memory>
+    requires { AllByRecursion (IsOver (length names.now)) rows.now }
+    ensures { OnOk result (text.new.items ≡ text.old.items ++ join_by (condition_text names.now) (codes " && ") rows.now) }
+{
+    let Some((first, others)) = rows.split_first() else {
+        return Ok(());
+    };
+    push_condition(alloc, text, names, first)?;
+    push_other_conditions(alloc, text, names, others)
+}
+
+/// Rows of a guard behind its first one, written at the end.
+fn push_other_conditions(
+    alloc: Global,
+    text: &mut Vec<u8>,
+    names: &[Name],
+    rows: &[Form],
+) -> Result<(), Memory>
+    requires { AllByRecursion (IsOver (length names.now)) rows.now }
+    ensures { OnOk result (text.new.items ≡ text.old.items ++ flat_map (λ row. codes " && " ++ condition_text names.now row) rows.now) }
+{
+    for row in rows {
+        text.extend_from_slice(b" && ")?;
+        push_condition(alloc, text, names, row)?;
+    }
+    Ok(())
+}
+
+/// A row of a guard, written at the end.
+fn push_condition(
+    alloc: Global,
+    text: &mut Vec<u8>,
+    names: &[Name],
+    row: &Form,
+) -> Result<(), Memory>
+    requires { IsOver (length names.now) row.now }
+    ensures { OnOk result (text.new.items ≡ text.old.items ++ condition_text names.now row.now) }
+{
+    text.extend_from_slice(row.text(alloc, names)?.as_slice())?;
+    text.extend_from_slice(b" >= 0")?;
     Ok(())
 }

@@ -141,6 +141,7 @@ fn product_statement(alloc: Global, product: u8) -> Result<Statement, Memory>
     Ok(Statement {
         bounds: product_bounds(alloc)?,
         down: vec![in alloc; false; 3]?,
+        guards: Vec::new(alloc),
         writes: matrix_cell(alloc, first, 1, 2)?,
         reads,
     })

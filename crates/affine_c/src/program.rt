@@ -13,9 +13,9 @@ use affine_form::{Form, Memory, Name};
 use affine_program::Program;
 use std::alloc::Global;
 
-/// A program as C text, one item a line without indentation: its parameters, its assumptions, and its loops and
-/// statements between the line that opens the program and the line that closes it. A statement is printed as a function
-/// of its reads. Reading the text gives this program. Want of memory is its only error.
+/// A program as C text, one item a line without indentation: its parameters, its assumptions, and its loops, guards and
+/// statements between the line that opens the program and the line that closes it. A guard is printed with all its rows,
+/// each said to be at least 0, and a statement as a function of its reads. Reading the text gives this program. Want of memory is its only error.
 #[tactic(auto, using(crate::proofs::Readable::printed_means))]
 pub fn program_text(alloc: Global, program: &Program) -> Result<Vec<u8>, Memory>
     ensures text { IfOk result (λ text. text.items ≡ text_of_program (meaning program.now)) }

@@ -14,7 +14,8 @@ use std::alloc::Global;
 
 /// Reads a C text: the affine program that it means, or its first fault, with its number and its place. The lines before
 /// the opening one may name parameters and assume; between the opening and the closing line stand loops with affine
-/// bounds, which step by one, blocks, and assignments to cells with affine subscripts.
+/// bounds, which step by one up or down, guards of affine comparisons, blocks, and assignments to cells with affine
+/// subscripts.
 pub fn read_program(alloc: Global, bytes: &[u8]) -> Result<Program, ProgramError>
     ensures program { IfOk result (λ program. Means bytes.now (meaning program)) }
     ensures fault { IfErr result (λ error. IfFault bytes.now error) }

@@ -1,22 +1,23 @@
 //! The statements of a text's items.
 
-ghost use Rattle.std.specs.Prelude.{◌≡◌, ◌≤◌, ◌+◌, ◌++◌, length, map, IfOk, OnOk, IsSomeAnd, Some};
+ghost use Rattle.std.specs.Prelude.{◌≡◌, ◌≤◌, ◌+◌, ◌++◌, length, map, IfOk, OnOk, IsSomeAnd};
 ghost use Rattle.std.specs.List.{AllByRecursion};
 ghost use Rattle.iolb_model.specs.Order.{row_common};
 ghost use Rattle.iolb_model.specs.Path.{row_path};
 ghost use Rattle.c_reading.specs.Tree as read;
-ghost use Rattle.c_grammar.specs.Well.{IsRowOver, IsItemIn, AreItemsIn, item_count, statement_count};
+ghost use Rattle.c_grammar.specs.Well.{IsRowOver, item_count, statement_count};
 ghost use Rattle.affine_program.specs.Limits.{IsSmallReference, IsStatementWithinLimits};
-ghost use Rattle.affine_form.specs.Rows.{direction_of, step_of};
-ghost use Rattle.affine_program.specs.Parts.{access_of, statement_of};
+ghost use Rattle.affine_form.specs.Form.{variables};
+ghost use Rattle.affine_form.specs.Rows.{direction_of, widened};
+ghost use Rattle.affine_program.specs.Parts.{StandOn, access_of, statement_of};
 ghost use Rattle.affine_program.specs.Tree.{row_of};
 ghost use Rattle.c_grammar.specs.Program.{narrowed_access, narrowed_statement, statements_in_item, statements_in};
-ghost use Rattle.affine_c.specs.Built.{AreRowsOver, IsShortWay, IsTreeOf, ArePlaced};
-ghost use Rattle.iolb_model.specs.declared.limits.TheConstants.{LOOPS, PARAMETERS, READS};
+ghost use Rattle.affine_c.specs.Built.{AreRowsOver, IsItemInside, AreItemsInside, IsShortWay, IsTreeOf, ArePlaced};
+ghost use Rattle.iolb_model.specs.declared.limits.TheConstants.{LOOPS, PARAMETERS, READS, VARIABLES};
 
 use crate::forms::forms_of;
 use crate::ways::{Way, way_in};
-use affine_form::Memory;
+use affine_form::{Form, Memory, widened};
 use affine_program::{Item, Reference, Statement};
 use c_reading::{Access, Item as ReadItem, Reading, Statement as ReadStatement};
 use std::alloc::Global;
@@ -61,7 +62,21 @@ fn references_of(
     Ok(references)
 }
 
-/// The statement of this number that was read, with the bounds and the directions of the loops around it in the tree.
+/// Forms read over so many variables.
+fn all_widened(alloc: Global, vars: usize, forms: &[Form]) -> Result<Vec<Form>, Memory>
+    requires few { vars ≤ VARIABLES }
+    requires room { AllByRecursion (λ form. variables form ≤ vars) forms.now }
+    ensures { IfOk result (λ wide. wide.items ≡ map (widened vars) forms.now) }
+{
+    let mut wide = Vec::new(alloc);
+    for form in forms {
+        wide.push(widened(alloc, vars, form)?)?;
+    }
+    Ok(wide)
+}
+
+/// The statement of this number that was read, with the bounds and the directions of the loops and the rows of the
+/// guards around it in the tree.
 fn statement_at(
     alloc: Global,
     statement: &ReadStatement,
@@ -75,9 +90,9 @@ fn statement_at(
     requires writes { AreRowsOver parameters depth statement.now.writes }
     requires few_reads { length statement.now.reads ≤ READS }
     requires reads { AllByRecursion (AreRowsOver parameters depth) statement.now.reads }
-    requires short { IsSomeAnd (row_path (row_of tree.now) number) IsShortWay }
+    requires short { IsSomeAnd (row_path (row_of tree.now) number) (IsShortWay parameters) }
     ensures statement { IfOk result (λ made. statement_of made ≡ narrowed_statement parameters depth statement.now) }
-    ensures bounds { IfOk result (λ made. row_path (row_of tree.now) number ≡ Some (map step_of made.bounds.items)) }
+    ensures way { IfOk result (λ made. IsSomeAnd (row_path (row_of tree.now) number) (StandOn (parameters + length made.bounds.items) made.bounds.items made.guards.items)) }
     ensures directions { IfOk result (λ made. row_common (row_of tree.now) number number ≡ map direction_of made.down.items) }
     ensures limits { IfOk result IsStatementWithinLimits }
 {
@@ -86,17 +101,24 @@ fn statement_at(
     let Some(way) = way_in(alloc, tree, number)? else {
         unreachable!();
     };
-    let Way { bounds, down } = way;
+    let Way {
+        bounds,
+        down,
+        guards,
+    } = way;
+    let vars = parameters + bounds.as_slice().len();
+    let guards = all_widened(alloc, vars, guards.as_slice())?;
     Ok(Statement {
         bounds,
         down,
+        guards,
         writes,
         reads,
     })
 }
 
 /// The statements of an item inside so many loops, put at the end, each with the bounds and the directions of the loops
-/// around it in the tree.
+/// and the rows of the guards around it in the tree.
 #[cycle(placing)]
 fn place_item(
     alloc: Global,
@@ -109,12 +131,12 @@ fn place_item(
 ) -> Result<(), Memory>
     requires tree { IsTreeOf reading.now parameters (row_of tree.now) }
     requires inner { depth ≤ LOOPS }
-    requires fits { IsItemIn reading.now depth (read.item_of item.now) }
+    requires fits { IsItemInside reading.now depth (read.item_of item.now) }
     requires room { length statements.old.items + item_count (read.item_of item.now) ≤ statement_count reading.now.items }
-    requires placed { ArePlaced (row_of tree.now) statements.old.items }
+    requires placed { ArePlaced parameters (row_of tree.now) statements.old.items }
     ensures statements { OnOk result (map statement_of statements.new.items ≡ map statement_of statements.old.items ++ statements_in_item parameters depth (read.item_of item.now)) }
     ensures count { OnOk result (length statements.new.items ≡ length statements.old.items + item_count (read.item_of item.now)) }
-    ensures placed { OnOk result (ArePlaced (row_of tree.now) statements.new.items) }
+    ensures placed { OnOk result (ArePlaced parameters (row_of tree.now) statements.new.items) }
 {
     match item {
         ReadItem::Assign(statement) => {
@@ -134,6 +156,15 @@ fn place_item(
                 statements,
             )
         }
+        ReadItem::Guard(_, body) => place_items(
+            alloc,
+            reading,
+            parameters,
+            depth,
+            body.as_slice(),
+            tree,
+            statements,
+        ),
     }
 }
 
@@ -150,12 +181,12 @@ fn place_items(
 ) -> Result<(), Memory>
     requires tree { IsTreeOf reading.now parameters (row_of tree.now) }
     requires inner { depth ≤ LOOPS }
-    requires fits { AreItemsIn reading.now depth (read.items_of items.now) }
+    requires fits { AreItemsInside reading.now depth (read.items_of items.now) }
     requires room { length statements.old.items + statement_count (read.items_of items.now) ≤ statement_count reading.now.items }
-    requires placed { ArePlaced (row_of tree.now) statements.old.items }
+    requires placed { ArePlaced parameters (row_of tree.now) statements.old.items }
     ensures statements { OnOk result (map statement_of statements.new.items ≡ map statement_of statements.old.items ++ statements_in parameters depth (read.items_of items.now)) }
     ensures count { OnOk result (length statements.new.items ≡ length statements.old.items + statement_count (read.items_of items.now)) }
-    ensures placed { OnOk result (ArePlaced (row_of tree.now) statements.new.items) }
+    ensures placed { OnOk result (ArePlaced parameters (row_of tree.now) statements.new.items) }
 {
     for item in items {
         place_item(alloc, reading, parameters, depth, item, tree, statements)?;
@@ -163,8 +194,8 @@ fn place_items(
     Ok(())
 }
 
-/// The statements of a reading, in the order of the text, with the bounds and the directions of the loops around them in
-/// the tree.
+/// The statements of a reading, in the order of the text, with the bounds and the directions of the loops and the rows
+/// of the guards around them in the tree.
 pub(crate) fn statements_of(
     alloc: Global,
     reading: &Reading,
@@ -172,9 +203,9 @@ pub(crate) fn statements_of(
     tree: &[Item],
 ) -> Result<Vec<Statement>, Memory>
     requires tree { IsTreeOf reading.now parameters (row_of tree.now) }
-    requires fits { AreItemsIn reading.now 0 reading.now.items }
+    requires fits { AreItemsInside reading.now 0 reading.now.items }
     ensures statements { IfOk result (λ statements. map statement_of statements.items ≡ statements_in parameters 0 reading.now.items) }
-    ensures placed { IfOk result (λ statements. ArePlaced (row_of tree.now) statements.items) }
+    ensures placed { IfOk result (λ statements. ArePlaced parameters (row_of tree.now) statements.items) }
 {
     let mut statements = Vec::new(alloc);
     place_items(

@@ -1,20 +1,23 @@
-//! The loops around a statement.
+//! The loops and the guards around a statement.
 
-ghost use Rattle.std.specs.Prelude.{◌≡◌, ◌∷◌, map, IfOk, IfSome, OnOk, option_map};
+ghost use Rattle.std.specs.Prelude.{◌≡◌, ◌∷◌, ◌++◌, map, IfOk, IfSome, OnOk, option_map};
 ghost use Rattle.iolb_model.specs.Order.{item_common, row_common};
 ghost use Rattle.iolb_model.specs.Path.{item_path, row_path};
-ghost use Rattle.affine_form.specs.Rows.{direction_of, step_of};
+ghost use Rattle.affine_form.specs.Rows.{direction_of};
 ghost use Rattle.affine_program.specs.Tree.{item_of, row_of};
+ghost use Rattle.affine_c.specs.Built.{gathered};
 
 use affine_form::{Form, Memory};
 use affine_program::Item;
 use std::alloc::Global;
 
-/// The bounds of the loops around a statement, outermost first, and whether each runs downward.
+/// The bounds of the loops around a statement, outermost first, whether each runs downward, and the rows of the guards
+/// around it, outermost first.
 #[derive(Drop)]
 pub(crate) struct Way {
     pub(crate) bounds: Vec<(Form, Form)>,
     pub(crate) down: Vec<bool>,
+    pub(crate) guards: Vec<Form>,
 }
 
 /// The way through one loop more, outermost first.
@@ -27,6 +30,7 @@ fn with_loop(
 ) -> Result<(), Memory>
     ensures bounds { OnOk result (inner.new.bounds.items ≡ (lower.now, upper.now) ∷ inner.old.bounds.items) }
     ensures down { OnOk result (inner.new.down.items ≡ down ∷ inner.old.down.items) }
+    ensures guards { OnOk result (inner.new.guards.items ≡ inner.old.guards.items) }
 {
     let lower = lower.try_clone(alloc)?;
     let upper = upper.try_clone(alloc)?;
@@ -35,10 +39,42 @@ fn with_loop(
     Ok(())
 }
 
+/// Puts copies of forms at the end.
+fn push_copies(alloc: Global, forms: &mut Vec<Form>, more: &[Form]) -> Result<(), Memory>
+    ensures { OnOk result (forms.new.items ≡ forms.old.items ++ more.now) }
+{
+    for form in more {
+        forms.push(form.try_clone(alloc)?)?;
+    }
+    Ok(())
+}
+
+/// The way through one guard more, outermost first.
+fn with_guard(alloc: Global, rows: &[Form], inner: Way) -> Result<Way, Memory>
+    ensures bounds { IfOk result (λ way. way.bounds.items ≡ inner.bounds.items) }
+    ensures down { IfOk result (λ way. way.down.items ≡ inner.down.items) }
+    ensures guards { IfOk result (λ way. way.guards.items ≡ rows.now ++ inner.guards.items) }
+{
+    let Way {
+        bounds,
+        down,
+        guards: others,
+    } = inner;
+    let mut guards = Vec::new(alloc);
+    push_copies(alloc, &mut guards, rows)?;
+    push_copies(alloc, &mut guards, others.as_slice())?;
+    Ok(Way {
+        bounds,
+        down,
+        guards,
+    })
+}
+
 /// The way to a statement from an item, where it stands there.
 #[cycle(way)]
+#[tactic(auto, using(crate::proofs::Gathered::through_loop, crate::proofs::Gathered::through_guard))]
 fn way_within(alloc: Global, item: &Item, number: u16) -> Result<Option<Way>, Memory>
-    ensures bounds { IfOk result (λ found. option_map (λ way. map step_of way.bounds.items) found ≡ item_path (item_of item.now) number) }
+    ensures gathered { IfOk result (λ found. option_map (λ way. (way.bounds.items, way.guards.items)) found ≡ option_map gathered (item_path (item_of item.now) number)) }
     ensures down { IfOk result (λ found. IfSome found (λ way. map direction_of way.down.items ≡ item_common (item_of item.now) number number)) }
 {
     match item {
@@ -47,6 +83,7 @@ fn way_within(alloc: Global, item: &Item, number: u16) -> Result<Option<Way>, Me
                 Ok(Some(Way {
                     bounds: Vec::new(alloc),
                     down: Vec::new(alloc),
+                    guards: Vec::new(alloc),
                 }))
             } else {
                 Ok(None)
@@ -65,13 +102,18 @@ fn way_within(alloc: Global, item: &Item, number: u16) -> Result<Option<Way>, Me
                 Ok(Some(way))
             }
         },
+        Item::Guard { rows, body } => match way_in(alloc, body.as_slice(), number)? {
+            None => Ok(None),
+            Some(way) => Ok(Some(with_guard(alloc, rows.as_slice(), way)?)),
+        },
     }
 }
 
 /// The way to a statement from a row of items, where it stands there.
 #[cycle(way)]
+#[tactic(auto, using(crate::proofs::Gathered::no_way, crate::proofs::Gathered::first_way))]
 pub(crate) fn way_in(alloc: Global, items: &[Item], number: u16) -> Result<Option<Way>, Memory>
-    ensures bounds { IfOk result (λ found. option_map (λ way. map step_of way.bounds.items) found ≡ row_path (row_of items.now) number) }
+    ensures gathered { IfOk result (λ found. option_map (λ way. (way.bounds.items, way.guards.items)) found ≡ option_map gathered (row_path (row_of items.now) number)) }
     ensures down { IfOk result (λ found. IfSome found (λ way. map direction_of way.down.items ≡ row_common (row_of items.now) number number)) }
 {
     for item in items {

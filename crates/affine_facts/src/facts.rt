@@ -1,7 +1,10 @@
 //! What a program says of its statements, in affine forms.
 
 use crate::affine::{Affine, copies};
+use crate::fitted::fitted;
+use crate::nests::copied_bounds;
 use crate::numbers::short;
+use crate::shown::{all_put, followed, within};
 use affine_form::{Form, Memory};
 use affine_program::{Program, Reference};
 use dep_quast::Quast;
@@ -37,10 +40,13 @@ pub struct ReadFacts {
     pub leaves: Vec<TreeLeaf>,
 }
 
-/// A statement: the bounds of its loops, what it writes, and its reads.
+/// A statement: the bounds of its loops, the rows of the guards around it, the bounds of a nest of its instances, what it
+/// writes, and its reads. The nest has the bounds of its loops, tightened by the guards where that can be had.
 #[derive(Drop)]
 pub struct StatementFacts {
     pub bounds: Vec<(Affine, Affine)>,
+    pub guards: Vec<Affine>,
+    pub nest: Vec<(Affine, Affine)>,
     pub writes: Access,
     pub reads: Vec<ReadFacts>,
 }
@@ -58,6 +64,18 @@ impl StatementFacts {
     /// How many loops are around it.
     pub fn depth(&self) -> usize {
         self.bounds.len()
+    }
+
+    /// The rows which say that loop values are in its domain: those of its loops, and those of its guards.
+    pub fn domain(
+        &self,
+        alloc: Global,
+        params: usize,
+        values: &[Affine],
+    ) -> Result<Vec<Affine>, Memory> {
+        let rows = within(alloc, params, self.bounds.as_slice(), values)?;
+        let guards = all_put(alloc, params, self.guards.as_slice(), values)?;
+        followed(alloc, rows, guards.as_slice())
     }
 }
 
@@ -167,24 +185,55 @@ fn reads_of(
     Ok(all)
 }
 
-/// The facts of a program with source trees of its reads.
-pub fn facts_of(alloc: Global, program: &Program, quasts: &Quasts) -> Result<Facts, Memory> {
+/// The statements of a program, each with the nest of its loops.
+fn statements_of(
+    alloc: Global,
+    program: &Program,
+    quasts: &Quasts,
+) -> Result<Vec<StatementFacts>, Memory> {
     let mut statements = Vec::new(alloc);
     for (number, statement) in program.statements().iter().enumerate() {
         statements.push(StatementFacts {
             bounds: bounds_of(alloc, statement.bounds.as_slice())?,
+            guards: all_of(alloc, statement.guards.as_slice())?,
+            nest: bounds_of(alloc, statement.bounds.as_slice())?,
             writes: access_of(alloc, &statement.writes)?,
             reads: reads_of(alloc, quasts, short(number), statement.reads.as_slice())?,
         })?;
     }
+    Ok(statements)
+}
+
+/// The nests of the statements, tightened by their guards where that can be had.
+fn guarded_nests(alloc: Global, facts: &Facts) -> Result<Vec<Vec<(Affine, Affine)>>, Memory> {
+    let mut all = Vec::new(alloc);
+    for own in facts.statements.as_slice() {
+        let nest = copied_bounds(alloc, own.nest.as_slice())?;
+        if own.guards.is_empty() {
+            all.push(nest)?;
+        } else {
+            let fewer = fitted(alloc, facts, copied_bounds(alloc, nest.as_slice())?, own)?;
+            all.push(fewer.unwrap_or(nest))?;
+        }
+    }
+    Ok(all)
+}
+
+/// The facts of a program with source trees of its reads.
+pub fn facts_of(alloc: Global, program: &Program, quasts: &Quasts) -> Result<Facts, Memory> {
     let mut arrays = Vec::new(alloc);
     for (_, subscripts) in program.arrays() {
         arrays.push(*subscripts)?;
     }
-    Ok(Facts {
+    let mut facts = Facts {
         params: program.params().len(),
         arrays,
         assumed: all_of(alloc, program.assumed().rows())?,
-        statements,
-    })
+        statements: statements_of(alloc, program, quasts)?,
+    };
+    let nests = guarded_nests(alloc, &facts)?;
+    for (own, nest) in facts.statements.iter_mut().zip(nests) {
+        own.nest = nest;
+    }
+    Ok(facts)
 }

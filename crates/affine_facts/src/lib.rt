@@ -4,6 +4,7 @@
 pub mod affine;
 pub mod combined;
 pub mod facts;
+pub mod fitted;
 pub mod inverses;
 pub mod leaves;
 pub mod nests;

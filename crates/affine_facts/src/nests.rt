@@ -135,55 +135,6 @@ fn first_open(
     Ok(None)
 }
 
-/// The rows which say that bounds are within others.
-fn nested_rows(
-    alloc: Global,
-    bounds: &[(Affine, Affine)],
-    domain: &[(Affine, Affine)],
-) -> Result<Vec<Affine>, Memory> {
-    let mut rows = Vec::new(alloc);
-    for ((lower, upper), (least, most)) in bounds.iter().zip(domain.iter()) {
-        rows.push(lower.less(alloc, least, 0)?)?;
-        rows.push(most.less(alloc, upper, 0)?)?;
-    }
-    Ok(rows)
-}
-
-/// The bounds with those of the loops around tightened, as far as they are seen to pass the statement's own.
-fn within_domain(
-    alloc: Global,
-    facts: &Facts,
-    bounds: Vec<(Affine, Affine)>,
-    own: &StatementFacts,
-) -> Result<Option<Vec<(Affine, Affine)>>, Memory> {
-    let rows = nested_rows(alloc, bounds.as_slice(), own.bounds.as_slice())?;
-    let mut all = bounds;
-    for row in rows {
-        let given = nest_rows(alloc, facts, all.as_slice())?;
-        let goals = vec![in alloc; row.copied(alloc)?]?;
-        if all_shown(alloc, &given, goals.as_slice())?.is_none() {
-            match tightened(alloc, facts.params, all.as_slice(), &row)? {
-                Some(fewer) => all = fewer,
-                None => return Ok(None),
-            }
-        }
-    }
-    Ok(Some(all))
-}
-
-/// The bounds tightened until the points between them are seen to be instances of the statement, and each range to be whole.
-pub fn fitted(
-    alloc: Global,
-    facts: &Facts,
-    bounds: Vec<(Affine, Affine)>,
-    own: &StatementFacts,
-) -> Result<Option<Vec<(Affine, Affine)>>, Memory> {
-    match within_domain(alloc, facts, bounds, own)? {
-        Some(bounds) => ranged(alloc, facts, bounds),
-        None => Ok(None),
-    }
-}
-
 /// Whether some variable is seen to have no value.
 pub fn is_empty(alloc: Global, bounds: &[(Affine, Affine)]) -> Result<bool, Memory> {
     for (lower, upper) in bounds {
@@ -326,6 +277,17 @@ pub fn nest_rows(
     Ok(Rows {
         vars: facts.params.saturating_add(bounds.len()),
         rows: followed(alloc, rows, nest.as_slice())?,
+    })
+}
+
+/// The rows of a statement's instances: the assumptions and its domain.
+pub fn instance_rows(alloc: Global, facts: &Facts, own: &StatementFacts) -> Result<Rows, Memory> {
+    let values = loops(alloc, facts.params, own.depth())?;
+    let domain = own.domain(alloc, facts.params, values.as_slice())?;
+    let rows = copies(alloc, facts.assumed.as_slice())?;
+    Ok(Rows {
+        vars: facts.params.saturating_add(own.depth()),
+        rows: followed(alloc, rows, domain.as_slice())?,
     })
 }
 

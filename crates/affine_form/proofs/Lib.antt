@@ -7,3 +7,4 @@ pub mod UniPairLemmas
 pub mod RowLemmas
 pub mod Steps
 pub mod Meaning
+pub mod WiderLists

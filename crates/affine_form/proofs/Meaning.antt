@@ -6,9 +6,9 @@ use Rattle.std.proofs.Math.IntN.{ℤ, pos, negsuc, ◌+ℤ◌, ◌-ℤ◌, ◌*�
 use lib.Signed.{◌≤ℤ◌}
 use Rattle.std.proofs.lemmas.Int.{ints}
 use Rattle.std.proofs.lemmas.List.{get_or_at, length-append, append-nil, append_assoc, map-append}
+use Rattle.base_laws.proofs.Forms.{form_value-front}
 use Rattle.base_laws.proofs.Ring.{zero-mul, one-mul, sub-mul}
 use Rattle.iolb_model.specs.Form.{AffineForm, dot, form_value}
-use Rattle.iolb_model.specs.Path.{PathStep, bounded}
 use Rattle.iolb_model.specs.Program.{Direction, upward, downward, IsOver}
 use Rattle.iolb_model.specs.Domain.{IsWithin}
 use Rattle.iolb_model.specs.Order.{GoesBefore, Precedes}
@@ -16,7 +16,7 @@ use Rattle.affine_form.specs.Substitution.{substitution, values_at}
 use Rattle.affine_form.specs.System.{IsMet}
 use Rattle.affine_form.proofs.Combination.{dot-add_lists, dot-zeros}
 use Rattle.affine_form.proofs.SubstitutionLemmas.{form_value-substitution}
-use Rattle.affine_form.specs.Rows.{IsSmallOver, widened, variable, variables_from, difference, within_rows, equality_rows, put_in, earlier_row, order_rows}
+use Rattle.affine_form.specs.Rows.{IsSmallOver, widened, variable, variables_from, difference, within_rows, guard_rows, equality_rows, put_in, earlier_row, order_rows}
 
 -- zeros at the end add nothing
 dot-end : (cs : List ℤ) (n : ℕ) (point : List ℤ) → dot (cs ++ replicate n (pos 0)) point ≡ dot cs point
@@ -87,46 +87,46 @@ at_least-from : (a b d : ℤ) → d ≡ (a -ℤ b) +ℤ pos 0 → b ≤ℤ a →
 at_least-from a b d e h = omega (arith, ints)
 
 -- the rows of values within bounds are met where the values are within them
-pub within_rows-says : (vars : ℕ) (path : List PathStep) (before values : List AffineForm) (point : List ℤ) → length values ≡ length path
-    → IsMet (within_rows vars path before values) point → IsWithin path (values_at before point) (values_at values point)
+pub within_rows-says : (vars : ℕ) (bounds : List (AffineForm × AffineForm)) (before values : List AffineForm) (point : List ℤ) → length values ≡ length bounds
+    → IsMet (within_rows vars bounds before values) point → IsWithin bounds (values_at before point) (values_at values point)
 within_rows-says vars [] before [] point same met = tt
 within_rows-says vars [] before (v ∷ vs) point same met = absurd (omega arith)
-within_rows-says vars (bounded lower upper ∷ path) before [] point same met = absurd (omega arith)
-within_rows-says vars (bounded lower upper ∷ path) before (v ∷ vs) point same met =
-    let least = form_value-difference vars v (substitution lower before) (pos 0) point ∙ ap (λ (z : ℤ). (form_value v point -ℤ z) +ℤ pos 0) (form_value-substitution lower before point) in
-    let greatest = form_value-difference vars (substitution upper before) v (pos 0) point ∙ ap (λ (z : ℤ). (z -ℤ form_value v point) +ℤ pos 0) (form_value-substitution upper before point) in (
-      at_least (form_value v point) (form_value lower (values_at before point)) (form_value (difference vars v (substitution lower before) (pos 0)) point) least met.0,
-      at_least (form_value upper (values_at before point)) (form_value v point) (form_value (difference vars (substitution upper before) v (pos 0)) point) greatest met.1.0,
-      subst (λ (p : List ℤ). IsWithin path p (values_at vs point)) (map-append (λ form. form_value form point) before (v ∷ []))
-          (within_rows-says vars path (before ++ v ∷ []) vs point (omega arith) met.1.1),
+within_rows-says vars (b ∷ bounds) before [] point same met = absurd (omega arith)
+within_rows-says vars (b ∷ bounds) before (v ∷ vs) point same met =
+    let least = form_value-difference vars v (substitution b.0 before) (pos 0) point ∙ ap (λ (z : ℤ). (form_value v point -ℤ z) +ℤ pos 0) (form_value-substitution b.0 before point) in
+    let greatest = form_value-difference vars (substitution b.1 before) v (pos 0) point ∙ ap (λ (z : ℤ). (z -ℤ form_value v point) +ℤ pos 0) (form_value-substitution b.1 before point) in (
+      at_least (form_value v point) (form_value b.0 (values_at before point)) (form_value (difference vars v (substitution b.0 before) (pos 0)) point) least met.0,
+      at_least (form_value b.1 (values_at before point)) (form_value v point) (form_value (difference vars (substitution b.1 before) v (pos 0)) point) greatest met.1.0,
+      subst (λ (p : List ℤ). IsWithin bounds p (values_at vs point)) (map-append (λ form. form_value form point) before (v ∷ []))
+          (within_rows-says vars bounds (before ++ v ∷ []) vs point (omega arith) met.1.1),
     )
 
-pub within_rows-met : (vars : ℕ) (path : List PathStep) (before values : List AffineForm) (point : List ℤ)
-    → IsWithin path (values_at before point) (values_at values point) → IsMet (within_rows vars path before values) point
+pub within_rows-met : (vars : ℕ) (bounds : List (AffineForm × AffineForm)) (before values : List AffineForm) (point : List ℤ)
+    → IsWithin bounds (values_at before point) (values_at values point) → IsMet (within_rows vars bounds before values) point
 within_rows-met vars [] before values point h = tt
-within_rows-met vars (bounded lower upper ∷ path) before [] point h = absurd h
-within_rows-met vars (bounded lower upper ∷ path) before (v ∷ vs) point h =
-    let least = form_value-difference vars v (substitution lower before) (pos 0) point ∙ ap (λ (z : ℤ). (form_value v point -ℤ z) +ℤ pos 0) (form_value-substitution lower before point) in
-    let greatest = form_value-difference vars (substitution upper before) v (pos 0) point ∙ ap (λ (z : ℤ). (z -ℤ form_value v point) +ℤ pos 0) (form_value-substitution upper before point) in (
-      at_least-from (form_value v point) (form_value lower (values_at before point)) (form_value (difference vars v (substitution lower before) (pos 0)) point) least h.0,
+within_rows-met vars (b ∷ bounds) before [] point h = absurd h
+within_rows-met vars (b ∷ bounds) before (v ∷ vs) point h =
+    let least = form_value-difference vars v (substitution b.0 before) (pos 0) point ∙ ap (λ (z : ℤ). (form_value v point -ℤ z) +ℤ pos 0) (form_value-substitution b.0 before point) in
+    let greatest = form_value-difference vars (substitution b.1 before) v (pos 0) point ∙ ap (λ (z : ℤ). (z -ℤ form_value v point) +ℤ pos 0) (form_value-substitution b.1 before point) in (
+      at_least-from (form_value v point) (form_value b.0 (values_at before point)) (form_value (difference vars v (substitution b.0 before) (pos 0)) point) least h.0,
       (
-        at_least-from (form_value upper (values_at before point)) (form_value v point) (form_value (difference vars (substitution upper before) v (pos 0)) point) greatest h.1,
-        within_rows-met vars path (before ++ v ∷ []) vs point
-            (subst (λ (p : List ℤ). IsWithin path p (values_at vs point)) (sym (map-append (λ form. form_value form point) before (v ∷ []))) h.2),
+        at_least-from (form_value b.1 (values_at before point)) (form_value v point) (form_value (difference vars (substitution b.1 before) v (pos 0)) point) greatest h.1,
+        within_rows-met vars bounds (before ++ v ∷ []) vs point
+            (subst (λ (p : List ℤ). IsWithin bounds p (values_at vs point)) (sym (map-append (λ form. form_value form point) before (v ∷ []))) h.2),
       ),
     )
 
--- they are two for each step of the way
-pub length-within_rows : (vars : ℕ) (path : List PathStep) (before values : List AffineForm) → length values ≡ length path → length (within_rows vars path before values) ≡ 2 * length path
+-- they are two for each loop
+pub length-within_rows : (vars : ℕ) (bounds : List (AffineForm × AffineForm)) (before values : List AffineForm) → length values ≡ length bounds → length (within_rows vars bounds before values) ≡ 2 * length bounds
 length-within_rows vars [] before values e = refl
-length-within_rows vars (bounded lower upper ∷ path) before [] e = absurd (omega arith)
-length-within_rows vars (bounded lower upper ∷ path) before (v ∷ values) e = omega (arith, length-within_rows vars path (before ++ v ∷ []) values (omega arith))
+length-within_rows vars (b ∷ bounds) before [] e = absurd (omega arith)
+length-within_rows vars (b ∷ bounds) before (v ∷ values) e = omega (arith, length-within_rows vars bounds (before ++ v ∷ []) values (omega arith))
 
 -- and at most so many for any values
-pub within_rows-few : (vars : ℕ) (path : List PathStep) (before values : List AffineForm) → length (within_rows vars path before values) ≤ 2 * length path
+pub within_rows-few : (vars : ℕ) (bounds : List (AffineForm × AffineForm)) (before values : List AffineForm) → length (within_rows vars bounds before values) ≤ 2 * length bounds
 within_rows-few vars [] before values = omega arith
-within_rows-few vars (bounded lower upper ∷ path) before [] = omega arith
-within_rows-few vars (bounded lower upper ∷ path) before (v ∷ values) = omega (arith, within_rows-few vars path (before ++ v ∷ []) values)
+within_rows-few vars (b ∷ bounds) before [] = omega arith
+within_rows-few vars (b ∷ bounds) before (v ∷ values) = omega (arith, within_rows-few vars bounds (before ++ v ∷ []) values)
 
 equal-from : (a b d e : ℤ) → d ≡ (a -ℤ b) +ℤ pos 0 → e ≡ (b -ℤ a) +ℤ pos 0 → pos 0 ≤ℤ d → pos 0 ≤ℤ e → a ≡ b
 equal-from a b d e p q h k = omega (arith, ints)
@@ -160,6 +160,26 @@ values_at-put_in point [] values = refl
 values_at-put_in point (f ∷ fs) values =
     let first : form_value (substitution f point) values ≡ form_value f (values_at point values) = form_value-substitution f point values in
     let rest = values_at-put_in point fs values in cc
+
+-- the rows of guards are met where the guards are
+pub guard_rows-met : (vars : ℕ) (guards point : List AffineForm) (values : List ℤ) → IsMet guards (values_at point values) → IsMet (guard_rows vars guards point) values
+guard_rows-met vars [] point values met = tt
+guard_rows-met vars (g ∷ guards) point values met = (
+  subst (λ (z : ℤ). pos 0 ≤ℤ z) (sym (form_value-widened vars (substitution g point) values ∙ form_value-substitution g point values)) met.0,
+  guard_rows-met vars guards point values met.1,
+)
+
+pub guard_rows-say : (vars : ℕ) (guards point : List AffineForm) (values : List ℤ) → IsMet (guard_rows vars guards point) values → IsMet guards (values_at point values)
+guard_rows-say vars [] point values met = tt
+guard_rows-say vars (g ∷ guards) point values met = (
+  subst (λ (z : ℤ). pos 0 ≤ℤ z) (form_value-widened vars (substitution g point) values ∙ form_value-substitution g point values) met.0,
+  guard_rows-say vars guards point values met.1,
+)
+
+-- they are one for each guard
+pub length-guard_rows : (vars : ℕ) (guards point : List AffineForm) → length (guard_rows vars guards point) ≡ length guards
+length-guard_rows vars [] point = refl
+length-guard_rows vars (g ∷ guards) point = ap suc (length-guard_rows vars guards point)
 
 above-one : (a b d : ℤ) → d ≡ (a -ℤ b) +ℤ negsuc 0 → pos 0 ≤ℤ d → b <ℤ a
 above-one a b d e h = omega (arith, ints)
@@ -220,15 +240,7 @@ order_rows-met vars (d ∷ loops) (suc level) t s (y ∷ ys) (x ∷ xs) point h 
       ),
     )
 
--- a form over the first of a point's values has the same value further on
-dot-front : (cs front rest : List ℤ) → length cs ≤ length front → dot cs (front ++ rest) ≡ dot cs front
-dot-front [] front rest h = refl
-dot-front (c ∷ cs) [] rest h = absurd (omega arith)
-dot-front (c ∷ cs) (x ∷ front) rest h = ap (λ (z : ℤ). (c *ℤ x) +ℤ z) (dot-front cs front rest (omega arith))
-
-pub form_value-front : (form : AffineForm) (front rest : List ℤ) → length form.coefficients ≤ length front → form_value form (front ++ rest) ≡ form_value form front
-form_value-front form front rest h = ap (λ (z : ℤ). z +ℤ form.constant) (dot-front form.coefficients front rest h)
-
+-- forms over the first of a point's values have the same values further on
 pub values_at-front : (vars : ℕ) (forms : List AffineForm) (front rest : List ℤ) → AllByRecursion (IsSmallOver vars) forms → vars ≡ length front
     → values_at forms (front ++ rest) ≡ values_at forms front
 values_at-front vars [] front rest over e = refl
@@ -248,6 +260,10 @@ widened-met vars many (row ∷ rows) front rest over e met = (
 pub widened-stay : (vars : ℕ) (rows : List AffineForm) (point : List ℤ) → IsMet rows point → IsMet (map (widened vars) rows) point
 widened-stay vars [] point met = tt
 widened-stay vars (row ∷ rows) point met = (subst (λ (z : ℤ). pos 0 ≤ℤ z) (sym (form_value-widened vars row point)) met.0, widened-stay vars rows point met.1)
+
+pub widened-say : (vars : ℕ) (rows : List AffineForm) (point : List ℤ) → IsMet (map (widened vars) rows) point → IsMet rows point
+widened-say vars [] point met = tt
+widened-say vars (row ∷ rows) point met = (subst (λ (z : ℤ). pos 0 ≤ℤ z) (form_value-widened vars row point) met.0, widened-say vars rows point met.1)
 
 -- the variables of the front, of what follows it, and of the end
 pub values-front : (vars count : ℕ) (front rest : List ℤ) → count ≡ length front → count ≤ vars → values_at (variables_from vars 0 count) (front ++ rest) ≡ front

@@ -1,10 +1,10 @@
 -- Rows made of forms: their lengths and sizes.
-use Rattle.std.proofs.Common.{◌≡◌, refl, sym, ◌∙◌, ap, subst, ℕ, zero, suc, ◌+◌, ◌-◌, ◌*◌, ◌^◌, ◌<◌, ◌≤◌, List, [], ◌∷◌, ◌++◌, length, map, replicate, get_or, arith, lit<}
+use Rattle.std.proofs.Common.{◌≡◌, refl, sym, ◌∙◌, ap, subst, ℕ, zero, suc, ◌+◌, ◌-◌, ◌*◌, ◌^◌, ◌<◌, ◌≤◌, List, [], ◌∷◌, ◌++◌, length, map, replicate, get_or, take, arith, lit<}
 use Rattle.std.specs.Prelude.{unsigned_abs, slice_set, zip}
 use Rattle.std.specs.List.{AllByRecursion}
 use Rattle.std.proofs.Math.IntN.{ℤ, pos, negsuc, ◌-ℤ◌, ◌*ℤ◌}
 use Rattle.std.proofs.lemmas.Int.{ints, unsigned_abs-mul}
-use Rattle.std.proofs.lemmas.List.{length-append, length-replicate, length-map, length-set, append_assoc, replicate_more}
+use Rattle.std.proofs.lemmas.List.{length-append, length-replicate, length-map, length-set, append_assoc, map-append, replicate_more, take_more}
 use Rattle.base_laws.proofs.Lists.{All-append, All-replicate, All-weaken}
 use Rattle.iolb_model.specs.Form.{AffineForm}
 use Rattle.affine_form.specs.Form.{variables, IsSmall, IsSmallForm}
@@ -15,7 +15,7 @@ use Rattle.affine_form.proofs.Combination.{get_or-add_lists, length-add_lists}
 use Rattle.affine_form.proofs.Sizes.{size-add, product-below}
 use Rattle.affine_form.proofs.SubstitutionLemmas.{length-substitution}
 use Rattle.iolb_model.specs.Program.{Direction, upward, downward}
-use Rattle.affine_form.specs.Rows.{widened, variable, variables_from, difference, within_rows, equality_rows, put_in, earlier_row, order_rows, IsSmallOver, IsSmallWithin, BoundsFit, step_of}
+use Rattle.affine_form.specs.Rows.{widened, variable, variables_from, difference, within_rows, guard_rows, equality_rows, put_in, earlier_row, order_rows, IsSmallOver, IsSmallWithin, BoundsFit}
 use Rattle.iolb_model.specs.declared.limits.TheConstants.{NUMBER_SIZE, PUT_SIZE}
 
 -- a form read over more variables has them
@@ -152,16 +152,9 @@ variables-over vars first (suc count) = (
   variables-over vars (suc first) count,
 )
 
--- the rows of values within bounds: two for each loop, over all variables
-pub within_rows-many : (vars : ℕ) (bounds : List (AffineForm × AffineForm)) (before values : List AffineForm) → length values ≡ length bounds
-    → length (within_rows vars (map step_of bounds) before values) ≡ 2 * length bounds
-within_rows-many vars [] before values e = refl
-within_rows-many vars (b ∷ bounds) before [] e = absurd (omega arith)
-within_rows-many vars (b ∷ bounds) before (v ∷ values) e =
-    omega (arith, within_rows-many vars bounds (before ++ v ∷ []) values (omega arith))
-
+-- the rows of values within bounds are over all variables
 pub within_rows-over : (vars : ℕ) (bounds : List (AffineForm × AffineForm)) (before values : List AffineForm) → BoundsFit (length before) bounds
-    → AllByRecursion (IsSmallOver vars) before → AllByRecursion (IsSmallOver vars) values → AllOver vars (within_rows vars (map step_of bounds) before values)
+    → AllByRecursion (IsSmallOver vars) before → AllByRecursion (IsSmallOver vars) values → AllOver vars (within_rows vars bounds before values)
 within_rows-over vars [] before values fit p q = tt
 within_rows-over vars (b ∷ bounds) before [] fit p q = tt
 within_rows-over vars (b ∷ bounds) before (v ∷ values) fit p q =
@@ -185,6 +178,26 @@ pub put_in-within : (vars : ℕ) (point forms : List AffineForm) → AllByRecurs
     → AllByRecursion (λ (f : AffineForm). variables f ≤ vars) (put_in point forms)
 put_in-within vars point [] p q = tt
 put_in-within vars point (f ∷ fs) p q = (variables-substitution f point vars (sym q.0.over) p, put_in-within vars point fs p q.1)
+
+-- the rows of guards are over all variables
+pub guard_rows-over : (vars : ℕ) (guards point : List AffineForm) → AllByRecursion (IsSmallOver vars) point → AllByRecursion (IsSmallOver (length point)) guards
+    → AllOver vars (guard_rows vars guards point)
+guard_rows-over vars [] point p q = tt
+guard_rows-over vars (g ∷ guards) point p q =
+    (length-widened vars (substitution g point) (variables-substitution g point vars (sym q.0.over) p), guard_rows-over vars guards point p q.1)
+
+-- the row of one guard more
+pub guard_rows-more : (vars k : ℕ) (guards point : List AffineForm) (guard row : AffineForm) (before rows more : List AffineForm) → k < length guards → guard ≡ get_or guards k guard
+    → row ≡ widened vars (substitution guard point) → more ≡ rows ++ row ∷ [] → rows ≡ before ++ guard_rows vars (take k guards) point
+    → more ≡ before ++ guard_rows vars (take (k + 1) guards) point
+guard_rows-more vars k guards point guard row before rows more below read is pushed h =
+    let so_far : List AffineForm = guard_rows vars (take k guards) point in
+    let next : guard_rows vars (take (k + 1) guards) point ≡ so_far ++ widened vars (substitution guard point) ∷ [] =
+    ap (λ (gs : List AffineForm). guard_rows vars gs point) (take_more guards k guard below ∙ ap (λ (g : AffineForm). take k guards ++ g ∷ []) (sym read))
+    ∙ ap (map (widened vars)) (map-append (λ (form : AffineForm). substitution form point) (take k guards) (guard ∷ []))
+    ∙ map-append (widened vars) (put_in point (take k guards)) (substitution guard point ∷ []) in
+    pushed ∙ ap (λ (rs : List AffineForm). rs ++ row ∷ []) h ∙ append_assoc before so_far (row ∷ []) ∙ ap (λ (r : AffineForm). before ++ (so_far ++ r ∷ [])) is
+    ∙ ap (λ (rs : List AffineForm). before ++ rs) (sym next)
 
 earlier_row-over : (vars : ℕ) (direction : Direction) (y x : AffineForm) → IsSmallWithin vars y → IsSmallWithin vars x → variables (earlier_row vars direction y x) ≡ vars
 earlier_row-over vars upward y x p q = length-difference vars x y (negsuc 0) q.within p.within

@@ -1,7 +1,6 @@
 -- Rows of systems, made of forms. Forms over fewer variables are read as forms over all of them.
 use Rattle.std.specs.Prelude.{◌≡◌, Bool, true, false, ℕ, zero, suc, ◌-◌, ◌≤◌, ℤ, pos, negsuc, ◌+ℤ◌, ◌-ℤ◌, ⊤, List, [], ◌∷◌, ◌++◌, map, length, replicate, slice_set}
 use Rattle.iolb_model.specs.Form.{AffineForm}
-use Rattle.iolb_model.specs.Path.{PathStep, bounded}
 use Rattle.iolb_model.specs.Program.{Direction, upward, downward}
 use Rattle.affine_form.specs.Form.{variables, IsSmallForm}
 use Rattle.affine_form.specs.Combination.{add_lists}
@@ -28,14 +27,14 @@ difference vars f g number = record {
   constant = (f.constant -ℤ g.constant) +ℤ number;
 }
 
--- The rows which say that values are within the bounds on a way, where the forms before stand for the parameters and
+-- The rows which say that values are within the bounds of loops, where the forms before stand for the parameters and
 -- the loops around: `value - lower` and `upper - value` for each loop.
-abbrev pub within_rows : ℕ → List PathStep → List AffineForm → List AffineForm → List AffineForm
+abbrev pub within_rows : ℕ → List (AffineForm × AffineForm) → List AffineForm → List AffineForm → List AffineForm
 within_rows vars [] before values = []
-within_rows vars (bounded lower upper ∷ path) before [] = []
-within_rows vars (bounded lower upper ∷ path) before (value ∷ values) =
-    difference vars value (substitution lower before) (pos 0) ∷ difference vars (substitution upper before) value (pos 0)
-    ∷ within_rows vars path (before ++ value ∷ []) values
+within_rows vars (bounds ∷ loops) before [] = []
+within_rows vars (bounds ∷ loops) before (value ∷ values) =
+    difference vars value (substitution bounds.0 before) (pos 0) ∷ difference vars (substitution bounds.1 before) value (pos 0)
+    ∷ within_rows vars loops (before ++ value ∷ []) values
 
 -- the rows which say that forms are equal pair by pair: `f - g`, then `g - f`
 abbrev pub equality_rows : ℕ → List AffineForm → List AffineForm → List AffineForm
@@ -46,6 +45,10 @@ equality_rows vars (f ∷ fs) (g ∷ gs) = difference vars f g (pos 0) ∷ diffe
 -- forms with other forms put in for their variables
 abbrev pub put_in : List AffineForm → List AffineForm → List AffineForm
 put_in point forms = map (λ form. substitution form point) forms
+
+-- the rows which say that guards are met where these forms stand for their variables
+abbrev pub guard_rows : ℕ → List AffineForm → List AffineForm → List AffineForm
+guard_rows vars guards point = map (widened vars) (put_in point guards)
 
 -- how a loop's values go, by whether it runs downward
 abbrev pub direction_of : Bool → Direction
@@ -82,7 +85,3 @@ pub record IsSmallOver (vars : ℕ) (form : AffineForm) : Type 0 where
 abbrev pub BoundsFit : ℕ → List (AffineForm × AffineForm) → Type 0
 BoundsFit vars [] = ⊤
 BoundsFit vars (bounds ∷ others) = (IsSmallOver vars bounds.0 × IsSmallOver vars bounds.1) × BoundsFit (suc vars) others
-
--- a loop around a statement, by its lower and its upper bound
-abbrev pub step_of : AffineForm × AffineForm → PathStep
-step_of bounds = bounded bounds.0 bounds.1

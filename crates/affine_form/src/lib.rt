@@ -28,7 +28,7 @@ pub use matrix::Matrix;
 pub use memory::Memory;
 pub use multipliers::Multipliers;
 pub use name::Name;
-pub use rows::{cell_rows, order_rows, push_equal, put, put_all, within_rows};
+pub use rows::{cell_rows, order_rows, push_equal, push_guards, put, put_all, within_rows};
 pub use shown::{empty, entails};
 pub use system::System;
 pub use systems::system_of;

@@ -5,10 +5,10 @@ ghost use Rattle.std.specs.List.{AllByRecursion};
 ghost use Rattle.affine_form.specs.Form.{variables, IsSmallForm};
 ghost use Rattle.affine_form.specs.Substitution.{substitution};
 ghost use Rattle.affine_form.specs.System.{AllOver};
-ghost use Rattle.affine_form.specs.Rows.{within_rows, equality_rows, put_in, earlier_row, direction_of, order_rows, difference, IsSmallOver, IsSmallWithin, BoundsFit, step_of};
+ghost use Rattle.affine_form.specs.Rows.{within_rows, guard_rows, equality_rows, put_in, earlier_row, direction_of, order_rows, difference, IsSmallOver, IsSmallWithin, BoundsFit};
 ghost use Rattle.iolb_model.specs.declared.limits.TheConstants.{PUT_SIZE, VARIABLES};
 
-use crate::differences::difference;
+use crate::differences::{difference, widened};
 use crate::{Form, Memory};
 use std::alloc::Global;
 
@@ -27,7 +27,7 @@ pub fn within_rows(
     requires bounds_fit { BoundsFit (length params.now) bounds.now }
     requires params_over { AllByRecursion (IsSmallOver vars) params.now }
     requires values_over { AllByRecursion (IsSmallOver vars) values.now }
-    ensures rows { IfOk result (λ rows. rows.items ≡ within_rows vars (map step_of bounds.now) params.now values.now) }
+    ensures rows { IfOk result (λ rows. rows.items ≡ within_rows vars bounds.now params.now values.now) }
     ensures many { IfOk result (λ rows. length rows.items ≡ 2 * length bounds.now) }
     ensures over { IfOk result (λ rows. AllOver vars rows.items) }
 {
@@ -56,7 +56,7 @@ fn push_within(
     requires upper_over { IsSmallOver (length before.now) bounds.now.1 }
     requires before_over { AllByRecursion (IsSmallOver vars) before.now }
     requires value_over { IsSmallOver vars value.now }
-    ensures { OnOk result (rows.new.items ≡ rows.old.items ++ within_rows vars (step_of bounds.now ∷ []) before.now (value.now ∷ [])) }
+    ensures { OnOk result (rows.new.items ≡ rows.old.items ++ within_rows vars (bounds.now ∷ []) before.now (value.now ∷ [])) }
 {
     rows.push(row_above(alloc, vars, &bounds.0, before, value)?)?;
     rows.push(row_below(alloc, vars, &bounds.1, before, value)?)?;
@@ -99,6 +99,28 @@ fn row_below(
 {
     let greatest = put(alloc, vars, upper, before)?;
     difference(alloc, vars, &greatest, value, 0)
+}
+
+/// Puts the rows at the end which say that guards are met where these forms stand for their variables. Where memory is
+/// wanted, some of them may stand there.
+pub fn push_guards(
+    alloc: Global,
+    vars: usize,
+    guards: &[Form],
+    point: &[Form],
+    rows: &mut Vec<Form>,
+) -> Result<(), Memory>
+    requires few { vars ≤ VARIABLES }
+    requires few_forms { length point.now ≤ VARIABLES }
+    requires guards_over { AllByRecursion (IsSmallOver (length point.now)) guards.now }
+    requires point_over { AllByRecursion (IsSmallOver vars) point.now }
+    ensures { OnOk result (rows.new.items ≡ rows.old.items ++ guard_rows vars guards.now point.now) }
+{
+    for guard in guards {
+        let put = put(alloc, vars, guard, point)?;
+        rows.push(widened(alloc, vars, &put)?)?;
+    }
+    Ok(())
 }
 
 /// The rows which say that the cell of subscripts at a point is the cell of others at another point: the subscripts

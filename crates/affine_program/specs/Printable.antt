@@ -1,9 +1,9 @@
 -- Which programs are the meaning of texts, so that the text that prints one can be read again.
-use Rattle.std.specs.Prelude.{◌≡◌, ℕ, suc, ◌≤◌, ◌<◌, nat_lt, if◌then◌else◌, Bool, false, List, [], ◌∷◌, ◌++◌, length, map, bytes_eq, ⊤}
+use Rattle.std.specs.Prelude.{◌≡◌, ℕ, suc, ◌+◌, ◌≤◌, ◌<◌, nat_lt, if◌then◌else◌, Bool, false, List, [], ◌∷◌, ◌++◌, length, map, bytes_eq, ⊤}
 use Rattle.std.specs.List.{AllByRecursion, list_any}
 use Rattle.iolb_model.specs.Form.{AffineForm}
-use Rattle.iolb_model.specs.Program.{Access, Statement, Item, assign, loop, Row, done, next, Array, AffineProgram}
-use Rattle.iolb_model.specs.declared.limits.TheConstants.{LOOPS, NUMBER_SIZE}
+use Rattle.iolb_model.specs.Program.{Access, Statement, Item, assign, loop, guard, Row, done, next, Array, AffineProgram}
+use Rattle.iolb_model.specs.declared.limits.TheConstants.{LOOPS, GUARDS, NUMBER_SIZE}
 use Rattle.c_tokens.specs.Names.{IsName}
 use Rattle.affine_form.specs.Form.{IsSmallForm}
 
@@ -59,15 +59,22 @@ pub record IsPrintableHeader (p : AffineProgram) (around : List (List ℕ)) (nam
   pub lower_small : IsSmallForm NUMBER_SIZE lower
   pub upper_small : IsSmallForm NUMBER_SIZE upper
 
--- the loops of an item and of a row inside loops of these names
-abbrev mutual
-  pub IsPrintableItem : AffineProgram → List (List ℕ) → Item → Type 0
-  IsPrintableItem p around (assign number) = ⊤
-  IsPrintableItem p around (loop name direction lower upper body) = IsPrintableHeader p around name lower upper × IsPrintableRow p (around ++ name ∷ []) body
+-- a guard's rows inside guards of so many rows: there is one, and they are small and not too many
+pub record IsPrintableGuard (guards : ℕ) (rows : List AffineForm) : Type 0 where
+  pub some : 0 < length rows
+  pub few : guards + length rows ≤ GUARDS
+  pub small : AllByRecursion (IsSmallForm NUMBER_SIZE) rows
 
-  pub IsPrintableRow : AffineProgram → List (List ℕ) → Row → Type 0
-  IsPrintableRow p around done = ⊤
-  IsPrintableRow p around (next item row) = IsPrintableItem p around item × IsPrintableRow p around row
+-- the loops and the guards of an item and of a row inside loops of these names and guards of so many rows
+abbrev mutual
+  pub IsPrintableItem : AffineProgram → List (List ℕ) → ℕ → Item → Type 0
+  IsPrintableItem p around guards (assign number) = ⊤
+  IsPrintableItem p around guards (loop name direction lower upper body) = IsPrintableHeader p around name lower upper × IsPrintableRow p (around ++ name ∷ []) guards body
+  IsPrintableItem p around guards (guard rows body) = IsPrintableGuard guards rows × IsPrintableRow p around (guards + length rows) body
+
+  pub IsPrintableRow : AffineProgram → List (List ℕ) → ℕ → Row → Type 0
+  IsPrintableRow p around guards done = ⊤
+  IsPrintableRow p around guards (next item row) = IsPrintableItem p around guards item × IsPrintableRow p around guards row
 
 -- ---- programs
 
@@ -80,4 +87,4 @@ pub record IsPrintable (p : AffineProgram) : Type 0 where
   pub different_arrays : AreDifferentArrays p.arrays
   pub some_assumptions : 0 < length p.parameters → 0 < length p.assumptions
   pub order : IsOrdered 0 (statement_numbers p.statements) (length p.arrays)
-  pub loops : IsPrintableRow p [] p.tree
+  pub loops : IsPrintableRow p [] 0 p.tree

@@ -1,9 +1,9 @@
 -- What the code's tree of items means.
 use Rattle.std.specs.Prelude.{List, [], ◌∷◌, map}
-use Rattle.iolb_model.specs.Program.{assign, loop, done, next, Item as ModelItem, Row as ModelRow}
+use Rattle.iolb_model.specs.Program.{assign, loop, guard, done, next, Item as ModelItem, Row as ModelRow}
 use Rattle.affine_form.specs.Rows.{direction_of}
 use Rattle.affine_program.specs.declared.item.Item.{Item}
-use Rattle.affine_program.specs.declared.item.Item.TheOpen.{Item-F, Loop, Assign}
+use Rattle.affine_program.specs.declared.item.Item.TheOpen.{Item-F, Loop, Guard, Assign}
 use Rattle.affine_program.specs.declared.item.Item.TheFolds.{fold-Item}
 
 -- items in a row
@@ -14,6 +14,7 @@ row_from (item ∷ items) = next item (row_from items)
 -- one item, with the meaning of each inner item in its place
 abbrev pub item_step : Item-F ModelItem → ModelItem
 item_step (Loop name lower upper down body) = loop name (direction_of down) lower upper (row_from body.items)
+item_step (Guard rows body) = guard rows.items (row_from body.items)
 item_step (Assign statement) = assign statement
 
 -- the meaning of an item

@@ -41,7 +41,7 @@ pub fn is_small_form(form: &Form) -> bool
 }
 
 /// Whether each number of forms is small.
-fn are_small_forms(forms: &[Form]) -> bool
+pub(crate) fn are_small_forms(forms: &[Form]) -> bool
     ensures { IsTrue result ↔ AllByRecursion (IsSmallForm NUMBER_SIZE) forms.now }
 {
     for form in forms {
@@ -88,8 +88,10 @@ fn is_within_limits(statement: &Statement) -> bool
     ensures { IsTrue result ↔ IsStatementWithinLimits statement.now }
 {
     statement.bounds.as_slice().len() <= limits::LOOPS
+        && statement.guards.as_slice().len() <= limits::GUARDS
         && statement.reads.as_slice().len() <= limits::READS
         && are_small_bounds(statement.bounds.as_slice())
+        && are_small_forms(statement.guards.as_slice())
         && are_small_forms(statement.writes.subs.as_slice())
         && are_small_references(statement.reads.as_slice())
 }

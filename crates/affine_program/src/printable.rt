@@ -1,16 +1,17 @@
 //! Whether some text means a program, so that the text that prints it can be read again.
 
-ghost use Rattle.std.specs.Prelude.{◌≡◌, ◌↔◌, ◌∷◌, [], ◌<◌, IsTrue, ℕ, List, map, length, Option, IfOk};
+ghost use Rattle.std.specs.Prelude.{◌≡◌, ◌↔◌, ◌∷◌, [], ◌<◌, ◌≤◌, IsTrue, ℕ, List, map, length, Option, IfOk};
 ghost use Rattle.iolb_model.specs.Program.{AffineProgram};
 ghost use Rattle.affine_program.specs.Draft.{parts_of};
 ghost use Rattle.affine_program.specs.Parts.{access_of, meaning, statement_of};
-ghost use Rattle.affine_program.specs.Printable.{IsOrdered, IsPrintable, IsPrintableHeader, IsPrintableItem, IsPrintableRow, access_numbers, statement_numbers};
+ghost use Rattle.affine_program.specs.Printable.{IsOrdered, IsPrintable, IsPrintableGuard, IsPrintableHeader, IsPrintableItem, IsPrintableRow, access_numbers, statement_numbers};
 ghost use Rattle.affine_program.specs.Seen.{seen_behind};
 ghost use Rattle.affine_program.specs.Tree.{item_of, row_of};
+ghost use Rattle.iolb_model.specs.declared.limits.TheConstants.{GUARDS};
 
 use crate::draft::Draft;
 use crate::item::Item;
-use crate::limits::is_small_form;
+use crate::limits::{are_small_forms, is_small_form};
 use crate::names::{
     are_arrays_named, are_different, are_different_arrays, are_names, is_among, is_array, with_name,
 };
@@ -18,7 +19,7 @@ use crate::reference::Reference;
 use crate::statement::Statement;
 use affine_form::{Form, Memory, Name};
 use c_tokens::is_name;
-use iolb_model::limits::LOOPS;
+use iolb_model::limits::{GUARDS, LOOPS};
 use std::alloc::Global;
 
 /// How many arrays were seen behind one of this number, where it is that of one of them or of the next.
@@ -97,15 +98,25 @@ fn is_header_printable(
         && is_small_form(upper)
 }
 
-/// Whether the loops of an item inside loops of these names are those of a text.
+/// Whether the rows of a guard inside guards of so many rows are those of a text.
+fn is_guard_printable(guards: usize, rows: &[Form]) -> bool
+    requires { guards ≤ GUARDS }
+    ensures { IsTrue result ↔ IsPrintableGuard guards rows.now }
+{
+    !rows.is_empty() && guards + rows.len() <= GUARDS && are_small_forms(rows)
+}
+
+/// Whether the loops and guards of an item inside loops of these names and guards of so many rows are those of a text.
 #[cycle(printable)]
 fn is_item_printable(
     alloc: Global,
     draft: &Draft,
     around: &[Name],
+    guards: usize,
     item: &Item,
 ) -> Result<bool, Memory>
-    ensures { IfOk result (λ yes. IsTrue yes ↔ IsPrintableItem (meaning (parts_of draft.now)) around.now (item_of item.now)) }
+    requires { guards ≤ GUARDS }
+    ensures { IfOk result (λ yes. IsTrue yes ↔ IsPrintableItem (meaning (parts_of draft.now)) around.now guards (item_of item.now)) }
 {
     match item {
         Item::Loop {
@@ -119,24 +130,32 @@ fn is_item_printable(
                 return Ok(false);
             }
             let inner = with_name(alloc, around, name)?;
-            is_row_printable(alloc, draft, inner.as_slice(), body)
+            is_row_printable(alloc, draft, inner.as_slice(), guards, body)
+        }
+        Item::Guard { rows, body } => {
+            if !is_guard_printable(guards, rows) {
+                return Ok(false);
+            }
+            is_row_printable(alloc, draft, around, guards + rows.len(), body)
         }
         Item::Assign(_) => Ok(true),
     }
 }
 
-/// Whether the loops of a row of items inside loops of these names are those of a text.
+/// Whether the loops and guards of a row of items inside loops of these names and guards of so many rows are those of a text.
 #[cycle(printable)]
 fn is_row_printable(
     alloc: Global,
     draft: &Draft,
     around: &[Name],
+    guards: usize,
     items: &[Item],
 ) -> Result<bool, Memory>
-    ensures { IfOk result (λ yes. IsTrue yes ↔ IsPrintableRow (meaning (parts_of draft.now)) around.now (row_of items.now)) }
+    requires { guards ≤ GUARDS }
+    ensures { IfOk result (λ yes. IsTrue yes ↔ IsPrintableRow (meaning (parts_of draft.now)) around.now guards (row_of items.now)) }
 {
     for item in items {
-        if !is_item_printable(alloc, draft, around, item)? {
+        if !is_item_printable(alloc, draft, around, guards, item)? {
             return Ok(false);
         }
     }
@@ -156,7 +175,7 @@ pub(crate) fn is_printable(alloc: Global, draft: &Draft) -> Result<bool, Memory>
 {
     let names = draft.params.as_slice();
     let arrays = draft.arrays.as_slice();
-    let loops = is_row_printable(alloc, draft, &[], draft.tree.as_slice())?;
+    let loops = is_row_printable(alloc, draft, &[], 0, draft.tree.as_slice())?;
     Ok(
         loops
             && are_names(names)

@@ -1,16 +1,17 @@
 //! Whether parts make a well-formed program.
 
-ghost use Rattle.std.specs.Prelude.{◌≡◌, ◌↔◌, IsTrue, ℕ, map, Some, ◌++◌, length, OnOk, IfOk, ◌≤◌};
+ghost use Rattle.std.specs.Prelude.{◌≡◌, ◌↔◌, IsTrue, IsSomeAnd, ℕ, map, take, ◌++◌, length, OnOk, IfOk, ◌≤◌};
 ghost use Rattle.std.specs.List.{AllByRecursion, enumerate_from, range_with_len};
 ghost use Rattle.iolb_model.specs.Order.{row_common};
 ghost use Rattle.iolb_model.specs.Path.{row_path};
 ghost use Rattle.iolb_model.specs.Program.{IsOver, AccessFits, StatementFits, ItemFits, RowFits, item_statements, row_statements, IsWellFormed};
 ghost use Rattle.affine_program.specs.Draft.{parts_of};
-ghost use Rattle.affine_form.specs.Rows.{direction_of, step_of};
-ghost use Rattle.affine_program.specs.Parts.{meaning, access_of, IsProgram};
+ghost use Rattle.affine_form.specs.Rows.{direction_of, widened};
+ghost use Rattle.affine_program.specs.Parts.{meaning, access_of, StandOn, HasItsWay, IsProgram};
+ghost use Rattle.affine_program.specs.Limits.{IsStatementWithinLimits, IsWithinLimits};
 ghost use Rattle.affine_program.specs.Tree.{item_of, row_of};
 ghost use Rattle.affine_program.specs.declared.statement.Statement.{Statement};
-ghost use Rattle.iolb_model.specs.declared.limits.TheConstants.{STATEMENTS};
+ghost use Rattle.iolb_model.specs.declared.limits.TheConstants.{PARAMETERS, STATEMENTS};
 
 use crate::domain::has;
 use crate::draft::Draft;
@@ -18,6 +19,7 @@ use crate::item::Item;
 use crate::limits::are_parts_within_limits;
 use crate::printable::is_printable;
 use crate::reference::Reference;
+use crate::statement::Statement;
 use affine_form::{Form, Memory};
 use std::alloc::Global;
 
@@ -82,6 +84,9 @@ fn item_fits(draft: &Draft, variables: usize, item: &Item) -> bool
                 && upper.coef().len() == variables
                 && row_fits(draft, variables + 1, body)
         }
+        Item::Guard { rows, body } => {
+            are_over(variables, rows) && row_fits(draft, variables, body)
+        }
         Item::Assign(number) => statement_fits(draft, variables, *number),
     }
 }
@@ -106,7 +111,7 @@ fn push_item_numbers(item: &Item, numbers: &mut Vec<u16>) -> Result<(), Memory>
 {
     match item {
         Item::Assign(number) => numbers.push(*number)?,
-        Item::Loop { body, .. } => push_numbers(body, numbers)?,
+        Item::Loop { body, .. } | Item::Guard { body, .. } => push_numbers(body, numbers)?,
     }
     Ok(())
 }
@@ -141,9 +146,31 @@ fn count_up_to(numbers: &[u16], many: usize) -> bool
     numbers.len() == many && are_counted(numbers)
 }
 
-/// Whether the bounds of the loops around a statement in a row of items are these, outermost first.
-fn stands(items: &[Item], number: u16, bounds: &[(Form, Form)]) -> bool
-    ensures { IsTrue result ↔ (row_path (row_of items.now) number ≡ Some (map step_of bounds.now)) }
+/// Whether forms, read over so many variables, are the first of others.
+fn are_first(vars: usize, forms: &[Form], others: &[Form]) -> bool
+    ensures { IsTrue result ↔ (map (widened vars) forms.now ≡ take (length forms.now) others.now) }
+{
+    if others.len() < forms.len() {
+        return false;
+    }
+    for (i, form) in forms.iter().enumerate() {
+        if !form.is_widened(vars, &others[i]) {
+            return false;
+        }
+    }
+    true
+}
+
+/// Whether the bounds of the loops around a statement in a row of items are these, and the rows of the guards these, read over
+/// so many variables, outermost first.
+fn stands(
+    items: &[Item],
+    number: u16,
+    vars: usize,
+    bounds: &[(Form, Form)],
+    guards: &[Form],
+) -> bool
+    ensures { IsTrue result ↔ IsSomeAnd (row_path (row_of items.now) number) (StandOn vars bounds.now guards.now) }
 {
     for item in items {
         if has(item, number) {
@@ -157,23 +184,43 @@ fn stands(items: &[Item], number: u16, bounds: &[(Form, Form)]) -> bool
                     !bounds.is_empty()
                         && lower.is_same(&bounds[0].0)
                         && upper.is_same(&bounds[0].1)
-                        && stands(body, number, &bounds[1..])
+                        && stands(body, number, vars, &bounds[1..], guards)
                 }
-                Item::Assign(_) => bounds.is_empty(),
+                Item::Guard { rows, body } => {
+                    are_first(vars, rows, guards)
+                        && stands(body, number, vars, bounds, &guards[rows.len()..])
+                }
+                Item::Assign(_) => bounds.is_empty() && guards.is_empty(),
             };
         }
     }
     false
 }
 
-/// Whether each statement has the bounds of the loops around it.
-fn all_stand(draft: &Draft) -> bool
-    requires { length draft.now.statements.items ≤ STATEMENTS }
-    ensures { IsTrue result ↔ AllByRecursion (λ (placed : ℕ × Statement). row_path (row_of draft.now.tree.items) placed.0 ≡ Some (map step_of placed.1.bounds.items)) (enumerate_from 0 draft.now.statements.items) }
+/// Whether a statement has the bounds of the loops around it, and the rows of the guards.
+fn has_its_way(draft: &Draft, number: u16, statement: &Statement) -> bool
+    requires few { length draft.now.params.items ≤ PARAMETERS }
+    requires within { IsStatementWithinLimits statement.now }
+    ensures { IsTrue result ↔ HasItsWay (length draft.now.params.items) draft.now.tree.items (number, statement.now) }
 {
-    let tree = draft.tree.as_slice();
+    let bounds = statement.bounds.as_slice();
+    let vars = draft.params.as_slice().len() + bounds.len();
+    stands(
+        draft.tree.as_slice(),
+        number,
+        vars,
+        bounds,
+        statement.guards.as_slice(),
+    )
+}
+
+/// Whether each statement has the bounds of the loops around it, and the rows of the guards.
+fn have_their_ways(draft: &Draft) -> bool
+    requires { IsWithinLimits (parts_of draft.now).params (parts_of draft.now).assumed (parts_of draft.now).arrays (parts_of draft.now).statements }
+    ensures { IsTrue result ↔ AllByRecursion (HasItsWay (length draft.now.params.items) draft.now.tree.items) (enumerate_from 0 draft.now.statements.items) }
+{
     for (number, statement) in draft.statements.as_slice().iter().enumerate() {
-        if !stands(tree, number as u16, statement.bounds.as_slice()) {
+        if !has_its_way(draft, number as u16, statement) {
             return false;
         }
     }
@@ -192,6 +239,7 @@ fn runs(items: &[Item], number: u16, down: &[bool]) -> bool
                     body,
                     ..
                 } => !down.is_empty() && *falls == down[0] && runs(body, number, &down[1..]),
+                Item::Guard { body, .. } => runs(body, number, down),
                 Item::Assign(_) => down.is_empty(),
             };
         }
@@ -236,7 +284,8 @@ fn is_well_formed(alloc: Global, draft: &Draft) -> Result<bool, Memory>
 }
 
 /// Whether the parts make a program: they are within their limits and well formed, the assumptions are over the
-/// parameters, each statement has the bounds and the directions of the loops around it, and some text means it.
+/// parameters, each statement has the bounds and the directions of the loops around it and the rows of the guards, and some
+/// text means it.
 pub(crate) fn is_program(alloc: Global, draft: &Draft) -> Result<bool, Memory>
     ensures { IfOk result (λ yes. IsTrue yes ↔ IsProgram (parts_of draft.now)) }
 {
@@ -246,7 +295,7 @@ pub(crate) fn is_program(alloc: Global, draft: &Draft) -> Result<bool, Memory>
         well && printable
             && draft.assumed.vars() == draft.params.as_slice().len()
             && are_parts_within_limits(draft)
-            && all_stand(draft)
+            && have_their_ways(draft)
             && all_run(draft),
     )
 }

@@ -44,7 +44,7 @@ fn leaf_sections(
         says: Says::Assumed,
     })?;
     all.push(Section {
-        count: 2 * depth(program, reader.statement),
+        count: program.domain_size(reader.statement),
         says: Says::Reader,
     })?;
     all.push(Section {
@@ -196,7 +196,7 @@ fn write_of_writer(
     put_loop_names(alloc, &mut names, program, writer, "'")?;
     let mut sections = leaf_sections(alloc, program, reader, tests)?;
     sections.push(Section {
-        count: 2 * depth(program, writer),
+        count: program.domain_size(writer),
         says: Says::Writer,
     })?;
     sections.push(Section {

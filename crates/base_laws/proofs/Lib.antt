@@ -1,3 +1,4 @@
 pub mod Ring
 pub mod Lists
 pub mod Ranges
+pub mod Forms

@@ -11,7 +11,8 @@ use plain_pages::{Page, position_of};
 use program_pages::Places;
 use std::alloc::Global;
 
-/// The program that warnings are about: the name of its file, its text, and where its loops stand in it.
+/// The program that warnings are about: the name of its file, its text, and where its loops stand in it; and whether guards are
+/// around the loops that are looked at, so that nothing is said of whether they may be empty.
 #[derive(Clone, Copy)]
 pub(crate) struct Scene<'a> {
     pub(crate) alloc: Global,
@@ -19,6 +20,7 @@ pub(crate) struct Scene<'a> {
     pub(crate) text: &'a [u8],
     pub(crate) program: &'a Program,
     pub(crate) places: &'a Places,
+    pub(crate) guarded: bool,
 }
 
 /// The least number of values that a loop may have, less than 0 too, by the bounds of the loops round it: a form of the parameters.
@@ -152,6 +154,9 @@ impl Scene<'_> {
         if let Some(width) = tile_width(params, around.len(), lower, upper) {
             return self.warn_tile(page, number, name, width);
         }
+        if self.guarded {
+            return Ok(());
+        }
         let span = least_span(self.alloc, lower, upper, around, params)?;
         match span.form(self.alloc, params)? {
             Some(goal) => self.warn_empty(page, number, name, &goal),
@@ -176,7 +181,7 @@ fn have_statement(items: &[Item]) -> bool {
 fn has_statement(item: &Item) -> bool {
     match item {
         Item::Assign(_) => true,
-        Item::Loop { body, .. } => have_statement(body),
+        Item::Loop { body, .. } | Item::Guard { body, .. } => have_statement(body),
     }
 }
 
@@ -219,6 +224,13 @@ fn warn_item(
             *seen = seen.saturating_add(1);
             let inner = with_bounds(scene.alloc, around, lower, upper)?;
             warn_items(scene, page, seen, inner.as_slice(), body)
+        }
+        Item::Guard { body, .. } => {
+            let guarded = Scene {
+                guarded: true,
+                ..scene
+            };
+            warn_items(guarded, page, seen, around, body)
         }
     }
 }

@@ -37,6 +37,7 @@ pub fn write_loop_warnings(
         text,
         program,
         places,
+        guarded: false,
     };
     let mut seen = 0;
     warn_items(scene, page, &mut seen, &[], program.tree())

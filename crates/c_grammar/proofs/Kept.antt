@@ -5,7 +5,7 @@ use Rattle.std.specs.List.{AllByRecursion, range_with_len}
 use Rattle.std.proofs.lemmas.Grind.{flat_map-append}
 use Rattle.std.proofs.lemmas.Bool.{and_parts}
 use Rattle.base_laws.proofs.Lists.{All-append, All-weaken, All-left, All-right}
-use Rattle.iolb_model.specs.declared.limits.TheConstants.{PARAMETERS, STATEMENTS, ARRAYS, NAME_BYTES, LOOPS, READS}
+use Rattle.iolb_model.specs.declared.limits.TheConstants.{PARAMETERS, STATEMENTS, ARRAYS, NAME_BYTES, LOOPS, GUARDS, READS}
 use Rattle.c_tokens.specs.declared.token.TokenKind.TheVariants as token
 use Rattle.c_reading.specs.declared.named.Kind.{Kind}
 use Rattle.c_reading.specs.declared.named.Kind.TheVariants.{OpenLoop}
@@ -19,7 +19,7 @@ use Rattle.c_grammar.specs.Meaning.{Names, Meaning, then_in, given}
 use Rattle.c_grammar.proofs.Forms.{IsWhereSome, IsRow, more_row}
 use Rattle.c_grammar.proofs.NameKinds.{KindFits, parameter_count, ranks, AreNumbered, more_fits, rank_of, parameter_of, array_number, flat_map-set, All-get, get-append, lookup, kind_of-lookup, bytes_same, cond_none}
 use Rattle.c_reading.specs.declared.tree.Header.{Header}
-use Rattle.c_reading.specs.Tree.{Item, assign, loop, Items, done, next, with_item}
+use Rattle.c_reading.specs.Tree.{Item, assign, loop, guard, Items, done, next, with_item}
 use Rattle.c_grammar.proofs.Steps.{if_holds}
 
 -- ---- words that are names
@@ -308,32 +308,43 @@ pub record StatementIn (depth : ℕ) (i : Names) (statement : Statement) : Type 
   pub few : length statement.reads ≤ READS
   pub reads : AllByRecursion (AccessIn depth i) statement.reads
 
--- items inside so many loops
-abbrev mutual
-  pub ItemIn : ℕ → Names → Item → Type 0
-  ItemIn depth i (assign statement) = StatementIn depth i statement
-  ItemIn depth i (loop h body) = HeaderFits depth i h × ItemsIn (suc depth) i body
+-- a guard's rows inside so many loops and guards of so many rows
+pub record GuardFits (depth guards : ℕ) (i : Names) (asked : List (List ℤ)) : Type 0 where
+  pub some : 0 < length asked
+  pub few : guards + length asked ≤ GUARDS
+  pub rows : AllByRecursion (IsRow i.parameters depth) asked
 
-  pub ItemsIn : ℕ → Names → Items → Type 0
-  ItemsIn depth i done = ⊤
-  ItemsIn depth i (next t items) = ItemIn depth i t × ItemsIn depth i items
+-- items inside so many loops and guards of so many rows
+abbrev mutual
+  pub ItemIn : ℕ → ℕ → Names → Item → Type 0
+  ItemIn depth guards i (assign statement) = StatementIn depth i statement
+  ItemIn depth guards i (loop h body) = HeaderFits depth i h × ItemsIn (suc depth) guards i body
+  ItemIn depth guards i (guard rows body) = GuardFits depth guards i rows × ItemsIn depth (guards + length rows) i body
+
+  pub ItemsIn : ℕ → ℕ → Names → Items → Type 0
+  ItemsIn depth guards i done = ⊤
+  ItemsIn depth guards i (next t items) = ItemIn depth guards i t × ItemsIn depth guards i items
 
 -- items fit where there is more
 mutual
-  item-wider : (depth : ℕ) {i j : Names} (t : Item) → Wider i j → ItemIn depth i t → ItemIn depth j t
-  item-wider depth {i} {j} (assign statement) w h =
+  item-wider : (depth guards : ℕ) {i j : Names} (t : Item) → Wider i j → ItemIn depth guards i t → ItemIn depth guards j t
+  item-wider depth guards {i} {j} (assign statement) w h =
       record { writes = access-wider w h.writes; few = h.few; reads = All-weaken (AccessIn depth i) (AccessIn depth j) statement.reads (λ a r. access-wider w r) h.reads }
-  item-wider depth (loop l body) w h =
-      (record { name = omega (arith, h.0.name, w.names); few = h.0.few; lower = more_row w.parameters (omega arith) h.0.lower; upper = more_row w.parameters (omega arith) h.0.upper }, items-wider (suc depth) body w h.1)
+  item-wider depth guards (loop l body) w h =
+      (record { name = omega (arith, h.0.name, w.names); few = h.0.few; lower = more_row w.parameters (omega arith) h.0.lower; upper = more_row w.parameters (omega arith) h.0.upper }, items-wider (suc depth) guards body w h.1)
+  item-wider depth guards {i} {j} (guard rows body) w h = (
+    record { some = h.0.some; few = h.0.few; rows = All-weaken (IsRow i.parameters depth) (IsRow j.parameters depth) rows (λ row r. more_row w.parameters (omega arith) r) h.0.rows },
+    items-wider depth (guards + length rows) body w h.1,
+  )
 
-  pub items-wider : (depth : ℕ) {i j : Names} (items : Items) → Wider i j → ItemsIn depth i items → ItemsIn depth j items
-  items-wider depth done w h = tt
-  items-wider depth (next t items) w h = (item-wider depth t w h.0, items-wider depth items w h.1)
+  pub items-wider : (depth guards : ℕ) {i j : Names} (items : Items) → Wider i j → ItemsIn depth guards i items → ItemsIn depth guards j items
+  items-wider depth guards done w h = tt
+  items-wider depth guards (next t items) w h = (item-wider depth guards t w h.0, items-wider depth guards items w h.1)
 
 -- one item more
-pub items_more : (depth : ℕ) (i : Names) (items : Items) (t : Item) → ItemsIn depth i items → ItemIn depth i t → ItemsIn depth i (with_item items t)
-items_more depth i done t h g = (g, tt)
-items_more depth i (next first items) t h g = (h.0, items_more depth i items t h.1 g)
+pub items_more : (depth guards : ℕ) (i : Names) (items : Items) (t : Item) → ItemsIn depth guards i items → ItemIn depth guards i t → ItemsIn depth guards i (with_item items t)
+items_more depth guards i done t h g = (g, tt)
+items_more depth guards i (next first items) t h g = (h.0, items_more depth guards i items t h.1 g)
 
 -- its statements
 pub count_more : (items : Items) (t : Item) → statement_count (with_item items t) ≡ statement_count items + item_count t
@@ -355,6 +366,7 @@ mutual
   nested-item : (old new : List Kind) → ((at : ℕ) → IsLoopAt old at → IsLoopAt new at) → (around : List ℕ) (t : Item) → IsNested old around t → IsNested new around t
   nested-item old new f around (assign s) h = tt
   nested-item old new f around (loop l body) h = (f l.name h.0, h.1, nested-items old new f (l.name ∷ around) body h.2)
+  nested-item old new f around (guard rows body) h = nested-items old new f around body h
 
   pub nested-items : (old new : List Kind) → ((at : ℕ) → IsLoopAt old at → IsLoopAt new at) → (around : List ℕ) (items : Items) → AreNested old around items → AreNested new around items
   nested-items old new f around done h = tt

@@ -1,104 +1,40 @@
 -- Every text that is read is well read.
-use Rattle.std.proofs.Common.{◌≡◌, refl, sym, ◌∙◌, ap, subst, ℕ, zero, suc, ◌+◌, ◌<◌, ◌≤◌, List, [], ◌∷◌, ◌++◌, length, map, arith, Bool, true, false, length-append, leb-true}
-use Rattle.std.specs.Prelude.{⊤, ℤ, pos, negsuc, nat_le, slice_get, IsSomeAnd, option_map, option_and_then, Option, Some, None, if◌then◌else◌, codes}
+use Rattle.std.proofs.Common.{◌≡◌, refl, sym, ◌∙◌, ap, subst, ℕ, zero, suc, ◌+◌, ◌<◌, ◌≤◌, List, [], ◌∷◌, ◌++◌, length, map, arith, true, false, length-append}
+use Rattle.std.specs.Prelude.{⊤, ℤ, slice_get, IsSomeAnd, option_map, Option, Some, None}
 use Rattle.std.specs.List.{AllByRecursion}
-use Rattle.base_laws.proofs.Lists.{All-append, All-weaken}
+use Rattle.base_laws.proofs.Lists.{All-weaken}
 use Rattle.iolb_model.specs.declared.limits.TheConstants.{SUBSCRIPTS, ASSUMPTIONS}
 use Rattle.c_tokens.specs.declared.token.Token.{Token}
 use Rattle.c_tokens.specs.Text.{tokens_of}
 use Rattle.c_reading.specs.declared.named.Kind.{Kind}
 use Rattle.c_reading.specs.declared.named.Kind.TheVariants.{Array}
-use Rattle.c_reading.specs.Tree.{Item, assign, loop, Items, done, next}
+use Rattle.c_reading.specs.Tree.{Item, assign, loop, guard, Items, done, next}
 use Rattle.c_reading.specs.Access.{Access}
-use Rattle.c_reading.specs.Numbers.{most_loops, combined}
+use Rattle.c_reading.specs.Numbers.{most_loops, most_guards}
 use Rattle.c_reading.specs.Compare.{Rows, most_brackets, most_rows}
 use Rattle.c_reading.specs.Head.{Head}
 use Rattle.c_reading.specs.Names.{arrays_among}
 use Rattle.c_reading.specs.Text.{Reading, all_at_least_one, at_least_one, assumptions_of, start_of}
-use Rattle.c_grammar.specs.Words.{word_of, a_name, a_symbol, line_end, program_end}
-use Rattle.c_grammar.specs.Affine as tree
-use Rattle.c_grammar.specs.Affine.{affine_words, comparison_word, compare_words}
+use Rattle.c_grammar.specs.Words.{word_of, a_name, line_end, program_end}
+use Rattle.c_grammar.specs.Affine.{compares_words}
 use Rattle.c_grammar.specs.Item.{items_words}
 use Rattle.c_grammar.specs.Text as text
-use Rattle.c_grammar.specs.Text.{Text, compares_words, lines_words, text_words}
+use Rattle.c_grammar.specs.Text.{Text, lines_words, text_words}
 use Rattle.c_grammar.specs.Meaning as mean
 use Rattle.c_grammar.specs.Meaning.{Names, affine_means, with_compare, row_count, compare_means, slot, items_means, parameters_mean, compares_mean, lines_mean, whole_means, text_means}
 use Rattle.affine_program.specs.Printable.{IsOrdered}
 use Rattle.c_grammar.specs.Well.{IsRowOver, parameters_of, arrays_of, IsAccessIn, IsItemIn, AreItemsIn, items_numbers, IsWellRead, ReadingsAreWellRead}
 use Rattle.c_grammar.proofs.Steps.{AreLexical, IsSpelled, all_spelled, class, word_spelled, if_holds}
 use Rattle.c_grammar.proofs.Lexical.{text_lexical}
-use Rattle.c_grammar.proofs.SoundItems.{accepted}
-use Rattle.c_grammar.proofs.Forms.{IsWhereSome, IsRow, combined_row, stated_row, all_rows}
+use Rattle.c_grammar.proofs.SoundText.{accepted}
+use Rattle.c_grammar.proofs.Forms.{IsRow, stated_row, all_rows}
 use Rattle.c_grammar.proofs.NameKinds.{KindFits, ranks, ranks-length, parameters-length}
 use Rattle.std.proofs.lemmas.Option.{slice_get-map}
 use Rattle.std.proofs.lemmas.List.{length-map}
-use Rattle.c_grammar.proofs.Kept.{IsNamed, AreNamed, first_named, second_named, State, Kept, kept-trans, rows-grown, AccessIn, Gives, nothing, ok, chained, Reads, bind, stays, ItemIn, ItemsIn}
-use Rattle.c_grammar.proofs.KeptRefs.{slot_there, affine_form}
+use Rattle.c_grammar.proofs.Kept.{IsNamed, AreNamed, first_named, second_named, State, rows-grown, AccessIn, Gives, ok, chained, Reads, bind, stays, ItemIn, ItemsIn}
+use Rattle.c_grammar.proofs.KeptRefs.{slot_there}
+use Rattle.c_grammar.proofs.KeptRows.{AreFew, compares_few}
 use Rattle.c_grammar.proofs.KeptItems.{Holds, holds_none, items_hold}
-
--- ---- compares
-
--- so many rows, at most
-record AreFew (parameters most : ℕ) (rows : Rows) : Type 0 where
-  pub few : length rows ≤ most
-  pub each : AllByRecursion (IsRow parameters 0) rows
-
--- one row more
-with_row_few : (parameters most : ℕ) (rows : Rows) (less : ℤ) (a b : List ℤ) → AreFew parameters most rows → IsRow parameters 0 a → IsRow parameters 0 b → IsWhereSome (λ more. AreFew parameters (suc most) more × (0 < length more)) (mean.with_row rows less a b)
-with_row_few parameters most rows less a b h p q = placed (combined (negsuc 0) less a b) (combined_row (negsuc 0) less a b p q) where
-  placed : (o : Option (List ℤ)) → IsWhereSome (IsRow parameters 0) o → IsWhereSome (λ more. AreFew parameters (suc most) more × (0 < length more)) (mean.row_behind rows o)
-  placed None g = tt
-  placed (Some row) g = (record { few = omega (arith, length-append rows (row ∷ []), h.few); each = All-append (IsRow parameters 0) rows (row ∷ []) h.each (g, tt) }, omega (arith, length-append rows (row ∷ [])))
-
--- the rows of a comparison
-with_compare_few : (parameters : ℕ) (rows : Rows) (c : tree.Comparison) (a b : List ℤ) → AllByRecursion (IsRow parameters 0) rows → IsRow parameters 0 a → IsRow parameters 0 b → IsWhereSome (λ more. AreFew parameters (length rows + row_count c) more × (0 < length more)) (with_compare rows c a b)
-with_compare_few parameters rows c a b h p q = by c where
-  start : AreFew parameters (length rows) rows
-  start = record { few = omega arith; each = h }
-
-  single : (o : Option Rows) → IsWhereSome (λ more. AreFew parameters (suc (length rows)) more × (0 < length more)) o → IsWhereSome (λ more. AreFew parameters (length rows + 1) more × (0 < length more)) o
-  single o g = let one : suc (length rows) ≡ length rows + 1 = omega arith in subst (λ n. IsWhereSome (λ more. AreFew parameters n more × (0 < length more)) o) one g
-
-  second : (o : Option Rows) → IsWhereSome (λ more. AreFew parameters (suc (length rows)) more × (0 < length more)) o → IsWhereSome (λ more. AreFew parameters (length rows + 2) more × (0 < length more)) (option_and_then (λ more. mean.with_row more (pos 0) b a) o)
-  second None g = tt
-  second (Some more) g = let two : suc (suc (length rows)) ≡ length rows + 2 = omega arith in subst (λ n. IsWhereSome (λ all. AreFew parameters n all × (0 < length all)) (mean.with_row more (pos 0) b a)) two (with_row_few parameters (suc (length rows)) more (pos 0) b a g.0 q p)
-
-  by : (c : tree.Comparison) → IsWhereSome (λ more. AreFew parameters (length rows + row_count c) more × (0 < length more)) (with_compare rows c a b)
-  by tree.at_least = single _ (with_row_few parameters (length rows) rows (pos 0) a b start p q)
-  by tree.above = single _ (with_row_few parameters (length rows) rows (pos 1) a b start p q)
-  by tree.at_most = single _ (with_row_few parameters (length rows) rows (pos 0) b a start q p)
-  by tree.below = single _ (with_row_few parameters (length rows) rows (pos 1) b a start q p)
-  by tree.equal = second _ (with_row_few parameters (length rows) rows (pos 0) a b start p q)
-
--- rows behind a compare, of which there is one
-abbrev AreAssumed : Rows → Names → Type 0
-AreAssumed rows j = AreFew j.parameters most_rows rows × (0 < length rows)
-
--- a compare gives rows
-compare_few : (rows : Rows) (c : tree.Compare) (i : Names) → AreNamed (compare_words c) → State 0 i → AllByRecursion (IsRow i.parameters 0) rows → Reads 0 i (compare_means rows c i) AreAssumed
-unfolding compare_means
-compare_few rows c i n s h =
-    let ws = comparison_word c.comparison ∷ affine_words c.right in
-    bind (affine_means most_brackets c.left i) (affine_form most_brackets c.left i (first_named (affine_words c.left) ws n) s) (λ a j t k p.
-    bind (affine_means most_brackets c.right j) (affine_form most_brackets c.right j (second_named (affine_words c.left) ws n).1 t) (λ b l u m q.
-    counted l u (with_compare rows c.comparison a.numbers b.numbers) (nat_le (length rows + row_count c.comparison) most_rows) refl
-    (with_compare_few l.parameters rows c.comparison a.numbers b.numbers (rows-grown 0 rows (kept-trans k m).grown h) (row_stays m p) q))) where
-      row_stays : {j l : Names} {row : List ℤ} → Kept j [] l → IsRow j.parameters 0 row → IsRow l.parameters 0 row
-      row_stays {row = row} m p = (rows-grown 0 (row ∷ []) m.grown (p, tt)).0
-
-      counted : (l : Names) → State 0 l → (o : Option Rows) (t : Bool) → nat_le (length rows + row_count c.comparison) most_rows ≡ t → IsWhereSome (λ more. AreFew l.parameters (length rows + row_count c.comparison) more × (0 < length more)) o
-          → Reads 0 l (mean.given (if t then o else None) l) AreAssumed
-      counted l u (Some more) true e g = stays u (record { few = omega (arith, g.0.few, leb-true (length rows + row_count c.comparison) most_rows e); each = g.0.each }, g.1)
-      counted l u o false e g = nothing
-      counted l u None true e g = nothing
-
--- compares give rows
-compares_few : (rows : Rows) (cs : text.Compares) (i : Names) → AreNamed (compares_words cs) → State 0 i → AllByRecursion (IsRow i.parameters 0) rows → Reads 0 i (compares_mean rows cs i) AreAssumed
-unfolding compares_mean
-compares_few rows (text.last_compare c) i n s h = compare_few rows c i n s h
-compares_few rows (text.compare c cs) i n s h =
-    let ws = a_symbol (codes "&&") ∷ compares_words cs in
-    bind (compare_means rows c i) (compare_few rows c i (first_named (compare_words c) ws n) s h) (λ more j t k g. compares_few more cs j (second_named (compare_words c) ws n).1 t g.0.each)
 
 -- ---- the lines before a program
 
@@ -110,7 +46,7 @@ names_kept (name ∷ names) i n s = bind (slot name i) (slot_there name i (n.0 r
 
 -- what is assumed is within the limits, and where a line assumes there is a row
 record IsHead (h : Head) (j : Names) : Type 0 where
-  pub few : AreFew j.parameters most_rows h.rows
+  pub few : AreFew j.parameters 0 most_rows h.rows
   pub some : h.assumed ≡ true → 0 < length h.rows
 
 -- the lines give what is assumed
@@ -123,7 +59,7 @@ lines_kept h (text.parameters head names ls) i n s g =
     lines_kept h ls j (second_named (map a_name names) ws n.1).1 t (record { few = record { few = g.few.few; each = rows-grown 0 h.rows k.grown g.few.each }; some = g.some }))
 lines_kept h (text.assumptions head cs ls) i n s g =
     let ws = line_end ∷ lines_words ls in
-    bind (compares_mean h.rows cs i) (compares_few h.rows cs i (first_named (compares_words cs) ws n.1) s g.few.each) (λ rows j t k f.
+    bind (compares_mean most_brackets most_rows h.rows cs i) (compares_few 0 most_brackets most_rows h.rows cs i (first_named (compares_words cs) ws n.1) s g.few.each) (λ rows j t k f.
     lines_kept (record { assumed = true; rows = rows }) ls j (second_named (compares_words cs) ws n.1).1 t (record { few = f.0; some = λ _. f.1 }))
 
 -- ---- arrays by their names
@@ -176,17 +112,18 @@ module _ (assumed : Rows) (all : Items) (i : Names) (s : State 0 i) where
 
   -- items as they are stated
   mutual
-    item_over : (depth : ℕ) (t : Item) → ItemIn depth i t → IsItemIn (reading_at assumed all i) depth t
-    item_over depth (assign statement) h = record {
+    item_over : (depth guards : ℕ) (t : Item) → ItemIn depth guards i t → IsItemIn (reading_at assumed all i) depth guards t
+    item_over depth guards (assign statement) h = record {
       writes = access_over depth statement.writes h.writes;
       few = h.few;
       reads = All-weaken (AccessIn depth i) (IsAccessIn (reading_at assumed all i) depth) statement.reads (access_over depth) h.reads;
     }
-    item_over depth (loop l body) h = (h.0.name, h.0.few, row_over depth l.lower h.0.lower, row_over depth l.upper h.0.upper, items_over (suc depth) body h.1)
+    item_over depth guards (loop l body) h = (h.0.name, h.0.few, row_over depth l.lower h.0.lower, row_over depth l.upper h.0.upper, items_over (suc depth) guards body h.1)
+    item_over depth guards (guard rows body) h = (h.0.some, h.0.few, rows_over depth rows h.0.rows, items_over depth (guards + length rows) body h.1)
 
-    items_over : (depth : ℕ) (items : Items) → ItemsIn depth i items → AreItemsIn (reading_at assumed all i) depth items
-    items_over depth done h = tt
-    items_over depth (next t items) h = (item_over depth t h.0, items_over depth items h.1)
+    items_over : (depth guards : ℕ) (items : Items) → ItemsIn depth guards i items → AreItemsIn (reading_at assumed all i) depth guards items
+    items_over depth guards done h = tt
+    items_over depth guards (next t items) h = (item_over depth guards t h.0, items_over depth guards items h.1)
 
 -- ---- whole texts
 
@@ -196,14 +133,14 @@ rows-length zero = refl
 rows-length (suc k) = omega (arith, length-append (all_at_least_one k) (at_least_one k ∷ []), rows-length k)
 
 -- the rows that are assumed, of which there is one where there is a parameter
-assumed_few : (h : Head) (i : Names) → State 0 i → IsHead h i → AreFew i.parameters ASSUMPTIONS (assumptions_of h i) × (0 < i.parameters → 0 < length (assumptions_of h i))
+assumed_few : (h : Head) (i : Names) → State 0 i → IsHead h i → AreFew i.parameters 0 ASSUMPTIONS (assumptions_of h i) × (0 < i.parameters → 0 < length (assumptions_of h i))
 unfolding assumptions_of
-assumed_few h i s e = if_holds (λ (rows : Rows). AreFew i.parameters ASSUMPTIONS rows × (0 < i.parameters → 0 < length rows)) h.rows (all_at_least_one i.parameters) h.assumed
+assumed_few h i s e = if_holds (λ (rows : Rows). AreFew i.parameters 0 ASSUMPTIONS rows × (0 < i.parameters → 0 < length rows)) h.rows (all_at_least_one i.parameters) h.assumed
     (λ is. (e.few, λ _. e.some is))
     (λ _. (record { few = omega (arith, rows-length i.parameters, s.few_parameters); each = all_rows i.parameters i.parameters (omega arith) s.few_parameters }, λ some. omega (arith, rows-length i.parameters)))
 
 -- what is meant is well read
-module _ (h : Head) (items : Items) (j k : Names) (g : IsHead h j) (counts : j.statements ≡ 0) (arrays : j.arrays ≡ 0) (a : Holds 0 j items k) where
+module _ (h : Head) (items : Items) (j k : Names) (g : IsHead h j) (counts : j.statements ≡ 0) (arrays : j.arrays ≡ 0) (a : Holds 0 0 j items k) where
   meant_well : IsWellRead (reading_at (assumptions_of h k) items k)
   meant_well =
       let s : State 0 k = a.state in
@@ -220,7 +157,7 @@ module _ (h : Head) (items : Items) (j k : Names) (g : IsHead h j) (counts : j.s
         few_arrays = omega (arith, many, s.few_arrays);
         ranks = few_ranks k.parameters 0 k.names k.kinds s.fit;
         statements = omega (arith, a.statements, s.few_statements);
-        items = items_over rows items k s 0 items a.fit;
+        items = items_over rows items k s 0 0 items a.fit;
         names = s.names;
         distinct = s.distinct;
         nested = a.nested [] tt;
@@ -235,7 +172,7 @@ whole_well t n =
     let ws = items_words t.items ++ (program_end ∷ []) in
     chained (lines_mean (record { assumed = false; rows = [] }) t.lines (start_of [] []))
     (lines_kept (record { assumed = false; rows = [] }) t.lines (start_of [] []) (first_named (lines_words t.lines) ws n) (record { kinds = refl; fit = tt; parameters = refl; few_parameters = omega arith; numbered = refl; few_arrays = omega arith; few_statements = omega arith; names = tt; distinct = λ a b name e f. cc }) (record { few = record { few = omega arith; each = tt }; some = λ e. cc })) (λ h j q.
-    chained (items_means most_loops most_brackets done t.items j) (items_hold most_loops 0 most_brackets j done t.items j refl (first_named (items_words t.items) (program_end ∷ []) (second_named (lines_words t.lines) ws n)) (holds_none 0 j q.state)) (λ items k a.
+    chained (items_means most_loops most_guards most_brackets done t.items j) (items_hold most_loops 0 most_guards 0 most_brackets j done t.items j refl refl (first_named (items_words t.items) (program_end ∷ []) (second_named (lines_words t.lines) ws n)) (holds_none 0 0 j q.state)) (λ items k a.
     ok (meant_well h items j k q.value q.kept.statements (sym q.kept.order) a)))
 
 -- a text's tree means what is well read

@@ -1,39 +1,36 @@
--- Headers of loops, statements, blocks and whole texts that are spelled within the limits are read, with their meaning.
-use Rattle.std.proofs.Common.{◌≡◌, ℕ, suc, Bool, true, false, List, [], ◌∷◌, ◌++◌, refl, sym, ap, ◌∙◌, Option, Some, None, subst, zero, ◌+◌, ◌-◌, ◌≤◌, not, length, arith, map}
-use Rattle.std.specs.Prelude.{ℤ, pos, Ok, codes, ◌||◌, nat_le, if◌then◌else◌, option_map}
-use Rattle.base_laws.proofs.Lists.{All-left}
+-- Headers of loops, statements, blocks, loops and guards that are spelled within the limits are read, with their meaning.
+use Rattle.std.proofs.Common.{◌≡◌, ℕ, suc, Bool, true, false, List, [], ◌∷◌, ◌++◌, refl, sym, ap, ◌∙◌, Option, Some, None, subst, zero, ◌+◌, ◌-◌, ◌≤◌, not, length, arith, append-nil}
+use Rattle.std.specs.Prelude.{ℤ, pos, Ok, codes, ◌||◌, nat_le, if◌then◌else◌, bytes_eq}
+use Rattle.base_laws.proofs.Lists.{All-right}
 use Rattle.c_tokens.specs.declared.token.TokenKind.TheVariants as token
 use Rattle.c_reading.specs.declared.named.Kind.{Kind}
 use Rattle.c_reading.specs.declared.named.Kind.TheVariants.{OpenLoop, ClosedLoop}
 use Rattle.c_reading.specs.Input.{Input, and_then, spelling, next, sees, place, Outcome, kind, left}
-use Rattle.c_reading.specs.Numbers.{combined, zeros, most_loops}
-use Rattle.c_reading.specs.Affine.{kind_of, number_of, with_name, affine, slot}
+use Rattle.c_reading.specs.Numbers.{combined, zeros, most_loops, most_guards}
+use Rattle.c_reading.specs.Affine.{kind_of, number_of, with_name, affine}
 use Rattle.c_reading.specs.Items as rule
-use Rattle.c_grammar.specs.Words.{Word, a_name, a_symbol, word_of, line_end, program_end}
-use Rattle.c_grammar.specs.Affine.{affine_words, reference_words, compare_words}
+use Rattle.c_reading.specs.Guards as rule_guard
+use Rattle.c_reading.proofs.Turns.{item_is, block_some, guards_read}
+use Rattle.c_grammar.specs.Words.{Word, a_name, a_symbol}
+use Rattle.c_grammar.specs.Affine.{affine_words, reference_words, Compares, compares_words}
 use Rattle.c_grammar.specs.Item as tree
-use Rattle.c_grammar.specs.Item.{twice_word, updating_word, sign_word, step_words, int_words, bound_word, bounds_words, header_words, assigner_word, assign_words, item_words, items_words}
+use Rattle.c_grammar.specs.Item.{twice_word, updating_word, sign_word, step_words, int_words, bound_word, bounds_words, header_words, assigner_word, assign_words, conditions_words, item_words, items_words}
 use Rattle.c_grammar.specs.Meaning as mean
-use Rattle.c_grammar.specs.Meaning.{Names, affine_means, header_means, reference_means, value_means, assign_means, statement_means, item_means, items_means, compare_means, parameters_mean, compares_mean, lines_mean, whole_means, text_means}
-use Rattle.c_grammar.proofs.Steps.{one_less, bare, spelled_kind, first, AreLexical, IsSpelled, all_spelled}
-use Rattle.c_grammar.proofs.Spelled.{At, at_kind, at_spelling, at_sees, at_next, at_as, at_assoc, other_bytes, same_seen, name_not_keyword, then_ok, Runs, none_meant, runs_end, runs_then, runs_inside, runs_given, runs_when, at_name, longer, fewer, some_left, name_not_symbol, same_some, runs_after}
-use Rattle.c_grammar.proofs.RunAffine.{affine_read, closed_by_run, slot_run}
-use Rattle.c_grammar.proofs.RunValues.{expect_run, open_run, EndsValue, value_run, NoBracket, access_read, compare_from_run}
+use Rattle.c_grammar.specs.Meaning.{Names, affine_means, header_means, reference_means, value_means, assign_means, statement_means, item_means, items_means, compares_mean}
+use Rattle.c_grammar.proofs.Steps.{one_less, bare, spelled_kind, first, IsSpelled}
+use Rattle.c_grammar.proofs.Spelled.{At, at_kind, at_spelling, at_sees, at_next, at_as, at_assoc, other_bytes, same_seen, name_not_keyword, then_ok, Runs, none_meant, runs_end, runs_then, runs_inside, runs_given, runs_when, at_name, fewer, some_left, name_not_symbol, runs_after, then_some}
+use Rattle.c_grammar.proofs.RunAffine.{affine_read, closed_by_run}
+use Rattle.c_grammar.proofs.RunValues.{expect_run, open_run, EndsValue, value_run, NoBracket, access_read, compares_run}
+use Rattle.c_grammar.proofs.RowCounts.{AreMore, compares_more}
 use Rattle.std.proofs.lemmas.List.{length-append, append_assoc}
-use Rattle.c_reading.specs.Tree.{Items, done}
+use Rattle.c_reading.specs.Tree as read
+use Rattle.c_reading.specs.Tree.{Items, done, with_item}
 use Rattle.c_reading.specs.Refs.{access, with_kind}
 use Rattle.c_reading.specs.Values.{Accesses, value}
 use Rattle.c_reading.specs.Items.{most_statements, first_reads, is_array}
 use Rattle.c_grammar.specs.Value.{value_words}
 use Rattle.std.specs.List.{AllByRecursion}
-use Rattle.c_tokens.specs.declared.token.Token.{Token}
-use Rattle.c_reading.specs.Compare.{Rows, most_brackets, compare}
-use Rattle.c_reading.specs.Head as head_rule
-use Rattle.c_reading.specs.Head.{Head, is_parameters, is_assumptions}
-use Rattle.c_reading.specs.Text as whole
-use Rattle.c_reading.specs.Text.{Reading, start_of}
-use Rattle.c_grammar.specs.Text as text_tree
-use Rattle.c_grammar.specs.Text.{Text, compares_words, lines_words, text_words}
+use Rattle.c_reading.specs.Compare.{Rows, compares, all_compares}
 
 -- the name of a loop that was left is taken
 loop_again_run : (i : Input) (o : Option ℕ) (rest : List Word) → At i (a_name (spelling i) ∷ rest) → Runs (λ a. a) (rule.loop_again o i) rest (mean.loop_again o (bare i))
@@ -156,7 +153,7 @@ skip_run false name ws i at = let other : sees (codes "int") i ≡ false = name_
 
 -- a header is read
 pub header_run : (b : ℕ) (h : tree.Header) (rest : List Word) (i : Input) → At i (header_words h ++ rest) → Runs (λ a. a) (rule.header (suc b) i) rest (header_means b h (bare i))
-unfolding rule.header rule.for_bracket next
+unfolding rule.header rule_guard.bracket_behind next
 header_run b h rest i at =
     let one = at_next at in
     let seen : sees (codes "(") (next i) ≡ true = at_sees (codes "(") one in
@@ -204,7 +201,61 @@ statement_run b before a rest i at =
     let counted : At (record w.1 { statements = i.statements + 1 }) (a_symbol (codes ";") ∷ rest) = at_as _ refl at1 in
     rw (expect_run (codes ";") (record w.1 { statements = i.statements + 1 }) (at_sees (codes ";") counted)) (runs_end (at_next counted) refl))))
 
+-- ---- guards
+
+-- a fault stays one in an `if`, and what is read stays read
+in_if_run : {A V : Type 0} {view : A → V} (start : ℕ) (o : Outcome A) {rest : List Word} {m : Option (V × Names)} → Runs view o rest m → Runs view (rule_guard.in_if start o) rest m
+in_if_run start o h = record { run = λ x e p. let r = h.run x e p in (r.0, ap (rule_guard.in_if start) r.1, r.2, r.3) }
+
+-- what an `if` asks is read
+conditions_run : (b room : ℕ) (cs : Compares) (rest : List Word) (i : Input) → At i (conditions_words cs ++ rest) → Runs (λ rows. rows) (rule_guard.conditions (suc b) room i) rest (compares_mean b room [] cs (bare i))
+unfolding rule_guard.conditions rule_guard.bracket_behind rule_guard.asked all_compares next
+conditions_run b room cs rest i at =
+    let one = at_next at in
+    let inside = at_assoc (compares_words cs) (a_symbol (codes ")") ∷ []) rest (at_next one) in
+    let seen : sees (codes "(") (next i) ≡ true = at_sees (codes "(") one in
+    rw (seen, open_run b (next i), one_less b) (in_if_run (place i) _ (
+    runs_after (compares b room (left (next (next i))) [] (next (next i))) _
+    (compares_run b room cs (left (next (next i))) [] (a_symbol (codes ")")) rest (next (next i)) inside (record { ends = record { times = refl; plus = refl; minus = refl }; joins = refl }) (omega arith)) (λ r at1.
+    rw (closed_by_run (codes ")") r.0.last r.1 (at_sees (codes ")") at1)) (runs_end (at_next at1) refl))))
+
+-- no `else` stands first
+NoElse : List Word → Type 0
+NoElse ws = bytes_eq (first ws).bytes (codes "else") ≡ false
+
+-- none is behind the item of an `if`
+no_else_run : (i : Input) (ws : List Word) → At i ws → NoElse ws → rule_guard.no_else i ≡ Ok (tt, i)
+unfolding rule_guard.no_else NoElse
+no_else_run i ws at none = rw (at_sees (codes "else") at ∙ none) refl
+
+-- a guard is read, where its item is
+guard_run : (more room b : ℕ) (before : Items) (cs : Compares) (t : tree.Item) (rest : List Word) (i : Input) → At i (conditions_words cs ++ (item_words t ++ rest)) → NoElse rest
+    → ((rows : Rows) (j : Input) → At j (item_words t ++ rest) → Runs (λ a. a) (rule.item more (room - length rows) (suc b) done j) rest (item_means more (room - length rows) (suc b) done t (bare j)))
+    → Runs (λ a. a) (rule.guards (rule.loops more) room (suc b) before i) rest (item_means more room (suc b) before (tree.guarded cs t) (bare i))
+unfolding item_means
+guard_run more room b before cs t rest i at none below = record {
+  run = λ x e p.
+      let f : Rows → mean.Meaning Items = λ rows. λ s. mean.then_in (item_means more (room - length rows) (suc b) done t s) (λ body. mean.pure (with_item before (read.guard rows body))) in
+      then_some f (compares_mean b room [] cs (bare i)) e (λ q e1 e2.
+      let c = (conditions_run b room cs (item_words t ++ rest) i at).run q e1 tt in
+      let asked : AreMore room [] c.0.0 = subst (λ (y : Rows × Names). AreMore room [] y.0) (sym c.3) (compares_more b room [] cs (bare i) q e1) in
+      let inner : Runs (λ a. a) (and_then (rule.item more (room - length c.0.0) (suc b) done c.0.1) (λ body k. and_then (rule_guard.no_else k) (λ _ l. Ok (with_item before (read.guard c.0.0 body), l)))) rest (f c.0.0 (bare c.0.1)) =
+      runs_then (rule.item more (room - length c.0.0) (suc b) done c.0.1) _ (item_means more (room - length c.0.0) (suc b) done t (bare c.0.1)) _ (below c.0.0 c.0.1 c.2) (λ u at2. rw (no_else_run u.1 rest at2 none) (runs_end at2 refl)) in
+      let r = inner.run x (ap (λ (y : Rows × Names). f y.0 y.1) c.3 ∙ e2) tt in
+      (r.0, guards_read more room (suc b) before i c.0.1 c.0.0 c.1 asked.some asked.few ∙ r.1, r.2, r.3));
+}
+
 -- ---- loops and blocks
+
+-- a loop reads its header, and its item with the loop's name open
+loop_step : (more room b : ℕ) (before : Items) (i : Input)
+    → rule.loops (suc more) room b before i ≡ and_then (rule.header b i) (λ l j. and_then (rule.item more room b done (with_kind l.name (OpenLoop (most_loops - 1 - more)) j)) (λ body k. Ok (with_item before (read.loop l body), with_kind l.name ClosedLoop k)))
+unfolding rule.loops rule.for_loop rule.item rule.opened rule.closed
+loop_step more room b before i = refl
+
+-- a block reads its items
+block_step : (more room b : ℕ) (before : Items) (i : Input) → rule.block (rule.loops more room) (rule.guards (rule.loops more) room) (suc b) before i ≡ rule.all_block_items (rule.item more room b) before (next i)
+block_step more room b before i = block_some more room before i (suc b) (omega arith) ∙ ap (λ n. rule.all_block_items (rule.item more room n) before (next i)) (one_less b)
 
 -- no item begins with the bracket that closes a block
 opens_item : (i : Input) (t : tree.Item) (rest : List Word) → At i (item_words t ++ rest) → sees (codes "}") i ≡ false
@@ -217,119 +268,76 @@ some_word : (t : tree.Item) → 1 ≤ length (item_words t)
 some_word tree.nothing = omega arith
 some_word _ = omega arith
 
-mutual
-  unfolding item_means items_means mean.begin mean.end rule.item rule.item_over rule.item_by rule.block rule.block_items rule.all_block_items rule.loops rule.for_loop rule.opened rule.closed with_kind next spelled_kind
+-- no item begins with `else`
+item_no_else : (t : tree.Item) (ws : List Word) → AllByRecursion IsSpelled (item_words t ++ ws) → NoElse (item_words t ++ ws)
+unfolding NoElse spelled_kind
+item_no_else (tree.statement a) ws h = other_bytes a.target.name (codes "else") token.Name h.0 (λ e. let no : token.Name ≡ token.Word = e in absurd cc)
+item_no_else _ ws h = refl
 
-  item_run : (more b : ℕ) (before : Items) (t : tree.Item) (rest : List Word) (i : Input) → At i (item_words t ++ rest) → Runs (λ a. a) (rule.item more b before i) rest (item_means more b before t (bare i))
-  item_run more b before tree.nothing rest i at = rw (at_sees (codes ";") at) (runs_end (at_next at) refl)
-  item_run more (suc b) before (tree.block ts) rest i at =
-      rw (at_sees (codes ";") at, at_sees (codes "{") at) (block_run more b before ts (left (next i)) rest (next i) (at_assoc (items_words ts) (a_symbol (codes "}") ∷ []) rest (at_next at)) (omega arith))
-  item_run (suc more) (suc b) before (tree.loop h t) rest i at =
-      rw (at_sees (codes ";") at, at_sees (codes "{") at, at_sees (codes "for") at) (
+-- no items in front of such words
+items_no_else : (ts : tree.Items) (ws : List Word) → AllByRecursion IsSpelled (items_words ts ++ ws) → NoElse ws → NoElse (items_words ts ++ ws)
+items_no_else tree.item_end ws h none = none
+items_no_else (tree.item t ts) ws h none =
+    let same = append_assoc (item_words t) (items_words ts) ws in
+    subst NoElse (sym same) (item_no_else t (items_words ts ++ ws) (subst (AllByRecursion IsSpelled) same h))
+
+-- the words behind those that were taken have their kinds
+behind_spelled : {i : Input} (xs ys : List Word) → At i (xs ++ ys) → AllByRecursion IsSpelled ys
+behind_spelled xs ys at = All-right IsSpelled xs ys at.spelled
+
+-- the bracket that closes a block is none
+bracket_no_else : (ws : List Word) → NoElse (a_symbol (codes "}") ∷ ws)
+unfolding NoElse
+bracket_no_else ws = refl
+
+mutual
+  unfolding item_means items_means mean.begin mean.end rule.item_over rule.item_by rule.block_items rule.all_block_items with_kind next spelled_kind
+
+  item_run : (more room b : ℕ) (before : Items) (t : tree.Item) (rest : List Word) (i : Input) → At i (item_words t ++ rest) → NoElse rest → Runs (λ a. a) (rule.item more room b before i) rest (item_means more room b before t (bare i))
+  item_run more room b before tree.nothing rest i at none = rw (item_is more room b before i, at_sees (codes ";") at) (runs_end (at_next at) refl)
+  item_run more room (suc b) before (tree.block ts) rest i at none =
+      rw (item_is more room (suc b) before i, at_sees (codes ";") at, at_sees (codes "{") at, block_step more room b before i) (block_run more room b before ts (left (next i)) rest (next i) (at_assoc (items_words ts) (a_symbol (codes "}") ∷ []) rest (at_next at)) (omega arith))
+  item_run (suc more) room (suc b) before (tree.loop h t) rest i at none =
+      rw (item_is (suc more) room (suc b) before i, at_sees (codes ";") at, at_sees (codes "{") at, at_sees (codes "for") at, loop_step more room (suc b) before i) (
       runs_then (rule.header (suc b) i) _ (header_means b h (bare i)) _ (header_run b h (item_words t ++ rest) i (at_assoc (header_words h) (item_words t) rest at)) (λ l at1.
       let j : Input = with_kind l.0.name (OpenLoop (most_loops - 1 - more)) l.1 in
-      runs_then (rule.item more (suc b) done j) _ (item_means more (suc b) done t (bare j)) _ (item_run more (suc b) done t rest j (at_as _ refl at1)) (λ u at2. runs_end (at_as _ refl at2) refl)))
-  item_run more b before (tree.statement a) rest i at =
-      rw (name_not_symbol (codes ";") refl at, name_not_symbol (codes "{") refl at, name_not_keyword (codes "for") refl at, name_not_keyword (codes "if") refl at, at_kind at) (
+      runs_then (rule.item more room (suc b) done j) _ (item_means more room (suc b) done t (bare j)) _ (item_run more room (suc b) done t rest j (at_as _ refl at1) none) (λ u at2. runs_end (at_as _ refl at2) refl)))
+  item_run more room (suc b) before (tree.guarded cs t) rest i at none =
+      rw (item_is more room (suc b) before i, at_sees (codes ";") at, at_sees (codes "{") at, at_sees (codes "for") at, at_sees (codes "if") at) (
+      guard_run more room b before cs t rest i (at_assoc (conditions_words cs) (item_words t) rest at) none (λ rows j at1. item_run more (room - length rows) (suc b) done t rest j at1 none))
+  item_run more room b before (tree.statement a) rest i at none =
+      rw (item_is more room b before i, name_not_symbol (codes ";") refl at, name_not_symbol (codes "{") refl at, name_not_keyword (codes "for") refl at, name_not_keyword (codes "if") refl at, at_kind at) (
       statement_run b before a rest i (at_assoc (assign_words a) (a_symbol (codes ";") ∷ []) rest at))
-  item_run _ _ before _ rest i at = none_meant
+  item_run _ _ _ before _ rest i at none = none_meant
 
-  block_run : (more b : ℕ) (before : Items) (ts : tree.Items) (n : ℕ) (rest : List Word) (i : Input) → At i (items_words ts ++ (a_symbol (codes "}") ∷ rest)) → left i ≤ n
-      → Runs (λ a. a) (rule.block_items (rule.item more b) n before i) rest (items_means more b before ts (bare i))
-  block_run more b before ts zero rest i at few = let some = some_left at in absurd (omega arith)
-  block_run more b before tree.item_end (suc n) rest i at few = rw (at_sees (codes "}") at) (runs_end (at_next at) refl)
-  block_run more b before (tree.item t ts) (suc n) rest i at few =
+  block_run : (more room b : ℕ) (before : Items) (ts : tree.Items) (n : ℕ) (rest : List Word) (i : Input) → At i (items_words ts ++ (a_symbol (codes "}") ∷ rest)) → left i ≤ n
+      → Runs (λ a. a) (rule.block_items (rule.item more room b) n before i) rest (items_means more room b before ts (bare i))
+  block_run more room b before ts zero rest i at few = let some = some_left at in absurd (omega arith)
+  block_run more room b before tree.item_end (suc n) rest i at few = rw (at_sees (codes "}") at) (runs_end (at_next at) refl)
+  block_run more room b before (tree.item t ts) (suc n) rest i at few =
       let behind : List Word = items_words ts ++ (a_symbol (codes "}") ∷ rest) in
       let front = at_assoc (item_words t) (items_words ts) (a_symbol (codes "}") ∷ rest) at in
-      rw (opens_item i t _ front) (runs_then (rule.item more b before i) _ (item_means more b before t (bare i)) _ (item_run more b before t behind i front) (λ u at1.
-      block_run more b u.0 ts n rest u.1 at1 (fewer front at1 few (omega (arith, length-append (item_words t) behind, some_word t)))))
+      let none = items_no_else ts (a_symbol (codes "}") ∷ rest) (behind_spelled (item_words t) behind front) (bracket_no_else rest) in
+      rw (opens_item i t _ front) (runs_then (rule.item more room b before i) _ (item_means more room b before t (bare i)) _ (item_run more room b before t behind i front none) (λ u at1.
+      block_run more room b u.0 ts n rest u.1 at1 (fewer front at1 few (omega (arith, length-append (item_words t) behind, some_word t)))))
 
 -- an item isn't the end
 not_end : (i : Input) (t : tree.Item) (rest : List Word) → At i (item_words t ++ rest) → rule.is_end (kind i) ≡ false
 not_end i tree.nothing rest at = ap rule.is_end (at_kind at)
 not_end i _ rest at = ap rule.is_end (at_kind at)
 
+-- the end of the program is none
+end_no_else : NoElse []
+unfolding NoElse
+end_no_else = refl
+
 -- the items of a program are read
-items_run : (before : Items) (ts : tree.Items) (n : ℕ) (i : Input) → At i (items_words ts) → left i ≤ n → Runs (λ a. a) (rule.items n before i) [] (items_means most_loops 64 before ts (bare i))
+pub items_run : (before : Items) (ts : tree.Items) (n : ℕ) (i : Input) → At i (items_words ts) → left i ≤ n → Runs (λ a. a) (rule.items n before i) [] (items_means most_loops most_guards 64 before ts (bare i))
 unfolding items_means rule.items
 items_run before ts zero i at few = let some = some_left at in absurd (omega arith)
 items_run before tree.item_end (suc n) i at few = rw (ap rule.is_end (at_kind at)) (runs_end at refl)
 items_run before (tree.item t ts) (suc n) i at few =
-    rw (not_end i t _ at) (runs_then (rule.item most_loops 64 before i) _ (item_means most_loops 64 before t (bare i)) _ (item_run most_loops 64 before t (items_words ts) i at) (λ u at1.
+    let nothing : items_words ts ++ [] ≡ items_words ts = append-nil (items_words ts) in
+    let none : NoElse (items_words ts) = subst NoElse nothing (items_no_else ts [] (subst (AllByRecursion IsSpelled) (sym nothing) (behind_spelled (item_words t) (items_words ts) at)) end_no_else) in
+    rw (not_end i t _ at) (runs_then (rule.item most_loops most_guards 64 before i) _ (item_means most_loops most_guards 64 before t (bare i)) _ (item_run most_loops most_guards 64 before t (items_words ts) i at none) (λ u at1.
     items_run u.0 ts n u.1 at1 (fewer at at1 few (omega (arith, length-append (item_words t) (items_words ts), some_word t)))))
-
--- ---- lines that name parameters
-
--- a line's names are read
-parameter_names_run : (names : List (List ℕ)) (n : ℕ) (rest : List Word) (i : Input) → At i (map a_name names ++ (line_end ∷ rest)) → left i ≤ n → Runs (λ a. a) (head_rule.parameter_names n i) rest (parameters_mean names (bare i))
-unfolding parameters_mean head_rule.parameter_names next
-parameter_names_run names zero rest i at few = let some = some_left at in absurd (omega arith)
-parameter_names_run [] (suc n) rest i at few = rw (at_kind at) (runs_end (at_next at) refl)
-parameter_names_run (name ∷ names) (suc n) rest i at few =
-    rw (at_kind at) (runs_then (slot i) _ (mean.slot name (bare i)) _ (slot_run i name (map a_name names ++ (line_end ∷ rest)) at) (λ s at1.
-    parameter_names_run names n rest s.1 at1 (fewer at at1 few (omega arith))))
-
--- ---- lines that assume
-
--- a line's compares are read
-compares_run : (cs : text_tree.Compares) (n : ℕ) (rows : Rows) (rest : List Word) (i : Input) → At i (compares_words cs ++ (line_end ∷ rest)) → left i ≤ n → Runs (λ a. a) (head_rule.compares n rows i) rest (compares_mean rows cs (bare i))
-unfolding compares_mean head_rule.compares head_rule.closed_line compare next
-compares_run cs zero rows rest i at few = let some = some_left at in absurd (omega arith)
-compares_run (text_tree.last_compare c) (suc n) rows rest i at few =
-    runs_after (compare rows i) _ (compare_from_run (place i) rows c (line_end ∷ rest) i at (record { times = refl; plus = refl; minus = refl })) (λ r at1. rw (at_sees (codes "&&") at1, at_kind at1) (runs_end (at_next at1) refl))
-compares_run (text_tree.compare c cs) (suc n) rows rest i at few =
-    let behind : List Word = a_symbol (codes "&&") ∷ (compares_words cs ++ (line_end ∷ rest)) in
-    runs_then (compare rows i) _ (compare_means rows c (bare i)) _ (compare_from_run (place i) rows c behind i (at_assoc (compare_words c) (a_symbol (codes "&&") ∷ compares_words cs) (line_end ∷ rest) at) (record { times = refl; plus = refl; minus = refl })) (λ r at1.
-    rw (at_sees (codes "&&") at1) (compares_run cs n r.0.rows rest (next r.1) (at_next at1) (fewer at (at_next at1) few (omega (arith, longer (compare_words c) (a_symbol (codes "&&") ∷ compares_words cs) (line_end ∷ rest))))))
-
--- ---- directives
-
--- no word that begins a directive
-record NoDirective (ws : List Word) : Type 0 where
-  parameters : is_parameters (first ws).kind ≡ false
-  assumptions : is_assumptions (first ws).kind ≡ false
-
--- the lines in front of a program are read
-directives_run : (ls : text_tree.Lines) (n : ℕ) (h : Head) (rest : List Word) (i : Input) → At i (lines_words ls ++ rest) → NoDirective rest → left i ≤ n → Runs (λ a. a) (head_rule.directives n h i) rest (lines_mean h ls (bare i))
-unfolding lines_mean head_rule.directives head_rule.all_parameter_names head_rule.all_compares next
-directives_run ls zero h rest i at other few = let some = some_left at in absurd (omega arith)
-directives_run text_tree.line_none (suc n) h rest i at other few =
-    rw (ap is_parameters (at_kind at) ∙ other.parameters, ap is_assumptions (at_kind at) ∙ other.assumptions) (runs_end at refl)
-directives_run (text_tree.parameters head names ls) (suc n) h rest i at other few =
-    rw (at_kind at) (runs_then (head_rule.parameter_names (left (next i)) (next i)) _ (parameters_mean names (bare i)) _ (parameter_names_run names (left (next i)) (lines_words ls ++ rest) (next i) (at_assoc (map a_name names) (line_end ∷ lines_words ls) rest (at_next at)) (omega arith)) (λ r at1.
-    directives_run ls n h rest r.1 at1 other (fewer at at1 few (omega (arith, longer (map a_name names) (line_end ∷ lines_words ls) rest)))))
-directives_run (text_tree.assumptions head cs ls) (suc n) h rest i at other few =
-    rw (at_kind at) (runs_then (head_rule.compares (left (next i)) h.rows (next i)) _ (compares_mean h.rows cs (bare i)) _ (compares_run cs (left (next i)) h.rows (lines_words ls ++ rest) (next i) (at_assoc (compares_words cs) (line_end ∷ lines_words ls) rest (at_next at)) (omega arith)) (λ r at1.
-    directives_run ls n (record { assumed = true; rows = r.0 }) rest r.1 at1 other (fewer at at1 few (omega (arith, longer (compares_words cs) (line_end ∷ lines_words ls) rest)))))
-
--- ---- texts
-
--- no item begins a directive
-no_directive : (ts : tree.Items) → NoDirective (items_words ts)
-no_directive tree.item_end = record { parameters = refl; assumptions = refl }
-no_directive (tree.item tree.nothing ts) = record { parameters = refl; assumptions = refl }
-no_directive (tree.item _ ts) = record { parameters = refl; assumptions = refl }
-
--- a text's words are read
-text_rule_run : (t : Text) (i : Input) → At i (lines_words t.lines ++ items_words t.items) → Runs (λ a. a) (whole.text_rule i) [] (whole_means t (bare i))
-unfolding whole.text_rule head_rule.head whole_means rule.all_items
-text_rule_run t i at =
-    let h : Head = record { assumed = false; rows = [] } in
-    runs_then (head_rule.directives (left i) h i) _ (lines_mean h t.lines (bare i)) _ (directives_run t.lines (left i) h (items_words t.items) i at (no_directive t.items) (omega arith)) (λ l at1.
-    runs_then (rule.items (left l.1) done l.1) _ (items_means most_loops most_brackets done t.items (bare l.1)) _ (items_run done t.items (left l.1) l.1 at1 (omega arith)) (λ s at2. runs_end at2 refl))
-
--- what spells the grammar within the limits is accepted, where its words are lexical
-pub spelled : (bytes : List ℕ) (t : Text) (r : Reading) (o : Option (List Token)) → ((tokens : List Token) → o ≡ Some tokens → AreLexical (map (word_of bytes) tokens))
-    → option_map (map (word_of bytes)) o ≡ Some (text_words t) → text_means t ≡ Some r → whole.reading_by bytes o ≡ Ok r
-unfolding whole.assumptions_of
-spelled bytes t r None lexical e f = absurd cc
-spelled bytes t r (Some tokens) lexical e f =
-    let together : map (word_of bytes) tokens ≡ (lines_words t.lines ++ items_words t.items) ++ program_end ∷ [] = same_some e ∙ sym (append_assoc (lines_words t.lines) (items_words t.items) (program_end ∷ [])) in
-    let all : AllByRecursion IsSpelled ((lines_words t.lines ++ items_words t.items) ++ program_end ∷ []) = subst (AllByRecursion IsSpelled) together (all_spelled _ (lexical tokens refl)) in
-    read (whole_means t (start_of [] [])) refl f (record { are = together; spelled = All-left IsSpelled (lines_words t.lines ++ items_words t.items) (program_end ∷ []) all }) where
-      read : (o : Option ((Head × Items) × Names)) → whole_means t (start_of [] []) ≡ o → mean.reading_from o ≡ Some r → At (start_of bytes tokens) (lines_words t.lines ++ items_words t.items) → whole.reading_from (whole.text_rule (start_of bytes tokens)) ≡ Ok r
-      read None is f at = absurd cc
-      read (Some x) is f at =
-          let s = (text_rule_run t (start_of bytes tokens) at).run x is tt in
-          let reading : (Head × Items) × Names → Reading = λ y. record { names = y.1.names; kinds = y.1.kinds; assumptions = whole.assumptions_of y.0.0 y.1; items = y.0.1 } in
-          ap whole.reading_from s.1 ∙ ap (λ (y : (Head × Items) × Names). Ok (reading y)) s.3 ∙ ap (λ (r : Reading). Ok r) (same_some f)

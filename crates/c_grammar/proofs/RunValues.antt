@@ -7,14 +7,14 @@ use Rattle.c_reading.specs.Access.{Access}
 use Rattle.c_reading.specs.Input.{Input, Outcome, spelling, next, left, place, fault_at, Rule, and_then, sees}
 use Rattle.c_reading.specs.Affine.{Affine, kind_of, with_name, affine, is_short, signs, all_signs}
 use Rattle.c_reading.specs.Compare as compare_rule
-use Rattle.c_reading.specs.Compare.{Rows, Compared, most_rows, most_brackets}
+use Rattle.c_reading.specs.Compare.{Rows, Compared}
 use Rattle.c_reading.specs.Refs as refs
 use Rattle.c_reading.specs.Refs.{with_kind, access}
 use Rattle.c_grammar.specs.Words.{Word, a_name, a_symbol}
 use Rattle.c_grammar.specs.Affine as affine_tree
-use Rattle.c_grammar.specs.Affine.{affine_words, comparison_word, compare_words, subscripts_words, reference_words, Reference, Subscripts, subscript_end, subscript}
+use Rattle.c_grammar.specs.Affine.{affine_words, comparison_word, compare_words, compares_words, subscripts_words, reference_words, Reference, Subscripts, subscript_end, subscript}
 use Rattle.c_grammar.specs.Meaning as mean
-use Rattle.c_grammar.specs.Meaning.{Names, Form, Seen, affine_means, compare_means, subscripts_means, access_from, reference_means, named_means, name_means, value_means, operands_means, unary_means, arguments_means}
+use Rattle.c_grammar.specs.Meaning.{Names, Form, Seen, affine_means, compare_means, compares_mean, subscripts_means, access_from, reference_means, named_means, name_means, value_means, operands_means, unary_means, arguments_means}
 use Rattle.c_grammar.proofs.Steps.{suc_not_zero, one_less, bare, first, bool_cases, spelled_kind}
 use Rattle.c_grammar.proofs.Spelled.{option_cases, At, at_sees, at_next, at_as, at_assoc, some_left, longer, fewer, then_some, Runs, none_meant, runs_end, runs_then, runs_inside, runs_given_last, runs_when, runs_unless, at_name, at_kind, at_spelling, name_not_symbol, number_not_symbol, runs_after, runs_where}
 use Rattle.c_grammar.proofs.SoundValues.{or_large, with_row_is, with_both_is, Taken, Stands, as_taken, as_seen}
@@ -41,9 +41,9 @@ comparison_run affine_tree.equal j ws at = option_cases (compare_rule.comparison
     (λ taken e. let e1 = rw (at_sees (codes ">=") at, at_sees (codes ">") at, at_sees (codes "<=") at, at_sees (codes "<") at, at_sees (codes "==") at) at e in (taken, e, as_taken e1 (record { count = refl; rows = λ start rows a b. with_both_is start rows a b }))) (λ e. let e1 = rw (at_sees (codes ">=") at, at_sees (codes ">") at, at_sees (codes "<=") at, at_sees (codes "<") at, at_sees (codes "==") at) at e in absurd cc)
 
 -- it is taken where its rows aren't too many
-comparison_by_run : (start count : ℕ) (a : Affine) (taken : Taken) (j : Input) → compare_rule.comparison j ≡ Some taken → nat_le (count + compare_rule.row_count taken) most_rows ≡ true → compare_rule.comparison_by start count a (compare_rule.comparison j) j ≡ Ok (taken, j)
+comparison_by_run : (room start count : ℕ) (a : Affine) (taken : Taken) (j : Input) → compare_rule.comparison j ≡ Some taken → nat_le (count + compare_rule.row_count taken) room ≡ true → compare_rule.comparison_by room start count a (compare_rule.comparison j) j ≡ Ok (taken, j)
 unfolding compare_rule.comparison_by
-comparison_by_run start count a taken j e few = rw (e, few) refl
+comparison_by_run room start count a taken j e few = rw (e, few) refl
 
 -- an expression ends at a comparison
 ends_comparison : (c : affine_tree.Comparison) (ws : List Word) → Ends (comparison_word c ∷ ws)
@@ -51,17 +51,38 @@ ends_comparison affine_tree.at_least ws = record { times = refl; plus = refl; mi
 ends_comparison _ ws = record { times = refl; plus = refl; minus = refl }
 
 -- a compare is read, whatever place its faults have
-pub compare_from_run : (start : ℕ) (rows : Rows) (c : affine_tree.Compare) (rest : List Word) (i : Input) → At i (compare_words c ++ rest) → Ends rest → Runs (λ (c : Compared). c.rows) (compare_rule.compare_from start rows i) rest (compare_means rows c (bare i))
+pub compare_from_run : (b room start : ℕ) (rows : Rows) (c : affine_tree.Compare) (rest : List Word) (i : Input) → At i (compare_words c ++ rest) → Ends rest → Runs (λ (c : Compared). c.rows) (compare_rule.compare_from b room start rows i) rest (compare_means b room rows c (bare i))
 unfolding compare_rule.compare_from compare_means next
-compare_from_run start rows c rest i at ends =
-    runs_then (affine most_brackets None i) _ (affine_means most_brackets c.left (bare i)) _
-    (affine_read most_brackets c.left (comparison_word c.comparison ∷ (affine_words c.right ++ rest)) i (at_assoc (affine_words c.left) (comparison_word c.comparison ∷ affine_words c.right) rest at) (ends_comparison c.comparison _)) (λ l at1.
+compare_from_run b room start rows c rest i at ends =
+    runs_then (affine b None i) _ (affine_means b c.left (bare i)) _
+    (affine_read b c.left (comparison_word c.comparison ∷ (affine_words c.right ++ rest)) i (at_assoc (affine_words c.left) (comparison_word c.comparison ∷ affine_words c.right) rest at) (ends_comparison c.comparison _)) (λ l at1.
     let k = comparison_run c.comparison l.1 (affine_words c.right ++ rest) at1 in
-    bool_cases (nat_le (length rows + mean.row_count c.comparison) most_rows)
-    (λ few. rw (comparison_by_run start (length rows) l.0 k.0 l.1 k.1 (ap (λ (n : ℕ). nat_le (length rows + n) most_rows) k.2.count ∙ few), few) (
-    runs_then (affine most_brackets None (next l.1)) _ (affine_means most_brackets c.right (bare l.1)) _ (affine_read most_brackets c.right rest (next l.1) (at_next at1) ends) (λ r at2.
+    bool_cases (nat_le (length rows + mean.row_count c.comparison) room)
+    (λ few. rw (comparison_by_run room start (length rows) l.0 k.0 l.1 k.1 (ap (λ (n : ℕ). nat_le (length rows + n) room) k.2.count ∙ few), few) (
+    runs_then (affine b None (next l.1)) _ (affine_means b c.right (bare l.1)) _ (affine_read b c.right rest (next l.1) (at_next at1) ends) (λ r at2.
     runs_given_last (mean.with_compare rows c.comparison l.0.numbers r.0.numbers) (bare r.1) (λ all e. rw (k.2.rows start rows l.0.numbers r.0.numbers ∙ ap (or_large start) e) (runs_end at2 refl)))))
-    (λ many. rw many (record { run = λ x e h. then_some _ (affine_means most_brackets c.right (bare l.1)) e (λ p e1 e2. absurd cc) })))
+    (λ many. rw many (record { run = λ x e h. then_some _ (affine_means b c.right (bare l.1)) e (λ p e1 e2. absurd cc) })))
+
+-- no compare goes on with this word
+pub record EndsCompares (w : Word) : Type 0 where
+  pub ends : Ends (w ∷ [])
+  pub joins : bytes_eq w.bytes (codes "&&") ≡ false
+
+-- an expression ends at the first word, whatever stands behind it
+ends_first : (w : Word) (ws : List Word) → Ends (w ∷ []) → Ends (w ∷ ws)
+ends_first w ws e = record { times = e.times; plus = e.plus; minus = e.minus }
+
+-- compares are read
+pub compares_run : (b room : ℕ) (cs : affine_tree.Compares) (n : ℕ) (rows : Rows) (w : Word) (rest : List Word) (i : Input) → At i (compares_words cs ++ (w ∷ rest)) → EndsCompares w → left i ≤ n
+    → Runs (λ (c : Compared). c.rows) (compare_rule.compares b room n rows i) (w ∷ rest) (compares_mean b room rows cs (bare i))
+unfolding compares_mean compare_rule.compares compare_rule.compare next
+compares_run b room cs zero rows w rest i at ends few = let some = some_left at in absurd (omega arith)
+compares_run b room (affine_tree.last_compare c) (suc n) rows w rest i at ends few =
+    runs_after (compare_rule.compare_from b room (place i) rows i) _ (compare_from_run b room (place i) rows c (w ∷ rest) i at (ends_first w rest ends.ends)) (λ r at1. rw (at_sees (codes "&&") at1 ∙ ends.joins) (runs_end at1 refl))
+compares_run b room (affine_tree.compare c cs) (suc n) rows w rest i at ends few =
+    let behind : List Word = a_symbol (codes "&&") ∷ (compares_words cs ++ (w ∷ rest)) in
+    runs_then (compare_rule.compare_from b room (place i) rows i) _ (compare_means b room rows c (bare i)) _ (compare_from_run b room (place i) rows c behind i (at_assoc (compare_words c) (a_symbol (codes "&&") ∷ compares_words cs) (w ∷ rest) at) (record { times = refl; plus = refl; minus = refl })) (λ r at1.
+    rw (at_sees (codes "&&") at1) (compares_run b room cs n r.0.rows w rest (next r.1) (at_next at1) ends (fewer at (at_next at1) few (omega (arith, longer (compare_words c) (a_symbol (codes "&&") ∷ compares_words cs) (w ∷ rest))))))
 
 -- ---- references
 

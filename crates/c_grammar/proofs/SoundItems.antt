@@ -1,233 +1,30 @@
--- Headers of loops, statements, blocks and whole texts that are read spell the grammar, and mean what was read.
-use Rattle.std.proofs.Common.{◌≡◌, ℕ, suc, ◌-◌, Bool, true, false, List, [], ◌∷◌, ◌++◌, refl, sym, ap, ◌∙◌, Option, Some, None, subst, zero, ◌+◌, map}
-use Rattle.std.specs.Prelude.{ℤ, pos, Ok, codes, nat_le, Err, option_map}
-use Rattle.c_tokens.specs.declared.token.TokenKind.{TokenKind}
+-- Statements, blocks, loops and guards that are read spell the grammar, and mean what was read.
+use Rattle.std.proofs.Common.{◌≡◌, ℕ, suc, ◌-◌, ◌<◌, ◌≤◌, length, arith, Bool, true, List, [], ◌∷◌, refl, sym, ap, ◌∙◌, Option, Some, subst, zero, ◌+◌}
+use Rattle.std.specs.Prelude.{Ok, codes, nat_le, Err}
 use Rattle.c_tokens.specs.declared.token.TokenKind.TheVariants as token
-use Rattle.c_reading.specs.declared.named.Kind.{Kind}
-use Rattle.c_reading.specs.declared.named.Kind.TheVariants.{OpenLoop, ClosedLoop}
-use Rattle.c_reading.specs.declared.tree.Header.{Header}
-use Rattle.c_reading.specs.Input.{Input, and_then, kind, spelling, next, sees, place, is_name_kind, Rule, left, Outcome}
-use Rattle.std.proofs.lemmas.List.{append_assoc}
-use Rattle.c_reading.specs.Numbers.{combined, zeros, most_loops}
-use Rattle.c_reading.specs.Affine.{kind_of, number_of, with_name, affine, closed_by, slot}
+use Rattle.c_reading.specs.declared.named.Kind.TheVariants.{OpenLoop}
+use Rattle.c_reading.specs.Input.{Input, and_then, kind, spelling, next, sees, place, is_name_kind, Rule, left, Outcome, refuse}
+use Rattle.c_reading.specs.Numbers.{most_loops, most_guards}
+use Rattle.c_reading.specs.Affine.{kind_of, closed_by}
 use Rattle.c_reading.specs.Values.{expect, value}
 use Rattle.c_reading.specs.Items as rule
-use Rattle.c_grammar.specs.Words.{Word, a_name, a_number, a_symbol, a_keyword, program_end, word_of, line_end}
-use Rattle.c_grammar.specs.Affine.{affine_words}
-use Rattle.c_grammar.specs.Affine as affine_tree
+use Rattle.c_reading.specs.Guards as rule_guard
+use Rattle.c_grammar.specs.Words.{a_symbol, program_end}
+use Rattle.c_grammar.specs.Affine.{Compares}
 use Rattle.c_grammar.specs.Item as tree
-use Rattle.c_grammar.specs.Item.{twice_word, updating_word, sign_word, step_words, bound_word, bounds_words, header_words, assigner_word, assign_words, item_words, items_words}
+use Rattle.c_grammar.specs.Item.{assigner_word, assign_words, conditions_words, item_words, items_words}
 use Rattle.c_grammar.specs.Meaning as mean
-use Rattle.c_grammar.specs.Meaning.{Names, Form, affine_means, header_means, assign_means, statement_means, item_means, items_means, parameters_mean, compares_mean, lines_mean, whole_means, text_means}
-use Rattle.c_grammar.proofs.Steps.{Passed, one_less, words, bare, spelled_kind, AreLexical, Took, is_plain, took_then, took_symbol, took_word, took_name, took_as, kind_spelled, Reads, fails, gives, gives_if, reads_map, reads_then, reads_given, reads_if, bool_cases, means_then, means_given, class, Spells, SpellsUpTo, took_none, name_kind_is, kind_is, end_is, end_words, same_ok, took_line_end, took_kind, parameters_is, assumptions_is, NamedAs}
-use Rattle.c_grammar.proofs.SoundAffine.{form_of, affine_sound, closed_by_sound, slot_sound}
-use Rattle.c_grammar.proofs.SoundValues.{WordSound, word_sound, open_bracket_sound, value_sound, access_sound, compare_from_sound}
+use Rattle.c_grammar.specs.Meaning.{Names, header_means, assign_means, statement_means, item_means, items_means, compares_mean}
+use Rattle.c_grammar.proofs.Steps.{Passed, one_less, words, bare, spelled_kind, AreLexical, Took, took_then, took_symbol, took_word, took_as, Reads, fails, gives, gives_if, reads_map, reads_then, reads_if, bool_cases, means_then, Spells, SpellsUpTo, took_none, kind_is, end_is, end_words}
+use Rattle.c_grammar.proofs.SoundAffine.{closed_by_sound}
+use Rattle.c_grammar.proofs.SoundValues.{word_sound, value_sound, access_sound, compares_sound}
+use Rattle.c_grammar.proofs.RowCounts.{compares_more}
 use Rattle.c_reading.specs.Tree as read
 use Rattle.c_reading.specs.Tree.{Items, done, with_item}
 use Rattle.c_reading.specs.Refs.{access, with_kind}
-use Rattle.c_reading.specs.Items.{most_statements, first_reads, is_array, is_end, all_items}
-use Rattle.c_tokens.specs.declared.token.Token.{Token}
-use Rattle.c_reading.specs.Compare.{Rows, compare}
-use Rattle.c_reading.specs.Head as head_rule
-use Rattle.c_reading.specs.Head.{Head, is_line_end, is_parameters, is_assumptions}
-use Rattle.c_reading.specs.Text as whole
-use Rattle.c_reading.specs.Text.{Reading, start_of}
-use Rattle.c_grammar.specs.Text as text_tree
-use Rattle.c_grammar.specs.Text.{Text, compares_words, lines_words, text_words}
-
--- the name of a loop that was left is one
-loop_again_sound : (i : Input) (at : Option ℕ) → number_of (spelling i) i ≡ at → AreLexical (words i) → is_name_kind (kind i) ≡ true → Reads (rule.loop_again at i) (NamedAs i (mean.loop_by (spelling i) (Some ClosedLoop)))
-unfolding next
-loop_again_sound i None found g is = fails
-loop_again_sound i (Some at) found g is = gives (took_name i g is, ap (λ (o : Option ℕ). mean.loop_again o (bare i)) found)
-
--- a loop's name that was read is one, by its kind
-loop_name_by_sound : (i : Input) (k : Option Kind) → AreLexical (words i) → is_name_kind (kind i) ≡ true → Reads (rule.loop_name_by (number_of (spelling i) i) k i) (NamedAs i (mean.loop_by (spelling i) k))
-unfolding rule.new_loop with_name next
-loop_name_by_sound i None g is = gives_if _ _ _ (λ short. (took_as _ refl (took_name i g is), rw short refl))
-loop_name_by_sound i (Some ClosedLoop) g is = loop_again_sound i (number_of (spelling i) i) refl g is
-loop_name_by_sound i (Some _) g is = fails
-
--- a loop's name that was read is one
-loop_name_sound : (i : Input) → AreLexical (words i)
-    → Reads (rule.loop_name i) (λ q. Took i (a_name (spelling i) ∷ []) q.1 × (mean.loop_name (spelling i) (bare i) ≡ Some (q.0, bare q.1)) × (is_name_kind (kind i) ≡ true))
-unfolding rule.loop_name mean.loop_name kind_of
-loop_name_sound i g = reads_if (is_name_kind (kind i)) (λ is. reads_map (loop_name_by_sound i (kind_of (spelling i) i) g is) (λ q n. (n.0, n.1, is))) (λ _. fails)
-
--- a bound's comparison that was read is spelled
-comparison_sound : (i : Input) → AreLexical (words i)
-    → Reads (rule.comparison i) (λ q. (falls : Bool) × (excludes : Bool) × Took i (bound_word falls excludes ∷ []) q.1 × (bare q.1 ≡ bare i) × (q.0.down ≡ falls) × (q.0.less ≡ mean.excluded falls excludes))
-unfolding rule.comparison next spelled_kind
-comparison_sound i g =
-    reads_if (sees (codes "<") i) (λ is. gives (false, true, took_symbol (codes "<") refl i g is, refl, refl, refl)) (λ _.
-    reads_if (sees (codes "<=") i) (λ is. gives (false, false, took_symbol (codes "<=") refl i g is, refl, refl, refl)) (λ _.
-    reads_if (sees (codes ">") i) (λ is. gives (true, true, took_symbol (codes ">") refl i g is, refl, refl, refl)) (λ _.
-    reads_if (sees (codes ">=") i) (λ is. gives (true, false, took_symbol (codes ">=") refl i g is, refl, refl, refl)) (λ _. fails))))
-
--- a word of a step is spelled
-in_step_sound : (start : ℕ) (k : TokenKind) → is_plain k ≡ true → (word : List ℕ) → spelled_kind word ≡ class k → (i : Input) → AreLexical (words i) → Reads (rule.expect_in_step start word i) (WordSound k word i)
-unfolding rule.expect_in_step next
-in_step_sound start k plain word is i g = gives_if _ _ _ (λ seen. (took_word word k plain is i g seen, refl))
-
--- the symbols of a step are spelled
-twice_sound : (falls : Bool) (i : Input) → AreLexical (words i) → sees (rule.twice falls) i ≡ true → Took i (twice_word falls ∷ []) (next i)
-unfolding spelled_kind
-twice_sound false i g is = took_symbol (codes "++") refl i g is
-twice_sound true i g is = took_symbol (codes "--") refl i g is
-
-updating_sound : (falls : Bool) (i : Input) → AreLexical (words i) → sees (rule.updating falls) i ≡ true → Took i (updating_word falls ∷ []) (next i)
-unfolding spelled_kind
-updating_sound false i g is = took_symbol (codes "+=") refl i g is
-updating_sound true i g is = took_symbol (codes "-=") refl i g is
-
-sign_sound : (falls : Bool) (start : ℕ) (i : Input) → AreLexical (words i) → Reads (rule.expect_in_step start (rule.sign falls) i) (λ q. Took i (sign_word falls ∷ []) q.1 × (bare q.1 ≡ bare i))
-unfolding spelled_kind
-sign_sound false start i g = in_step_sound start token.Symbol refl (codes "+") refl i g
-sign_sound true start i g = in_step_sound start token.Symbol refl (codes "-") refl i g
-
--- what stands behind a step's name is spelled
-behind_name_sound : (start : ℕ) (falls : Bool) (name : List ℕ) (i : Input) → spelled_kind name ≡ token.Name → AreLexical (words i)
-    → Reads (rule.step_behind_name start falls name i) (λ q. (s : tree.Step) × (ws : List Word) × (step_words falls name s ≡ a_name name ∷ ws) × Took i ws q.1 × (bare q.1 ≡ bare i))
-unfolding rule.step_behind_name next spelled_kind
-behind_name_sound start falls name i named g =
-    reads_if (sees (rule.twice falls) i) (λ is. gives (tree.name_plus_plus, twice_word falls ∷ [], refl, twice_sound falls i g is, refl)) (λ _.
-    reads_if (sees (rule.updating falls) i) (λ is.
-    let t = updating_sound falls i g is in
-    reads_map (in_step_sound start token.Number refl (codes "1") refl (next i) t.lexical) (λ q o. (tree.name_plus_one, updating_word falls ∷ a_number (codes "1") ∷ [], refl, took_then t o.0, o.1))) (λ _.
-    reads_if (sees (codes "=") i) (λ is.
-    let t = took_symbol (codes "=") refl i g is in
-    reads_then (and_then (rule.expect_in_step start name (next i)) (λ _. rule.expect_in_step start (rule.sign falls))) _ {Q = λ (p : Unit {0} × Input). Took (next i) (a_name name ∷ sign_word falls ∷ []) p.1 × (bare p.1 ≡ bare i)}
-    (reads_then (rule.expect_in_step start name (next i)) _ (in_step_sound start token.Name refl name named (next i) t.lexical) (λ r n.
-    reads_map (sign_sound falls start r.1 n.0.lexical) (λ p s. (took_then n.0 s.0, s.1 ∙ n.1)))) (λ p s.
-    reads_map (in_step_sound start token.Number refl (codes "1") refl p.1 s.0.lexical) (λ q o.
-    (tree.name_is_name_plus_one, a_symbol (codes "=") ∷ a_name name ∷ sign_word falls ∷ a_number (codes "1") ∷ [], refl, took_then t (took_then s.0 o.0), o.1 ∙ s.1))))
-    (λ _. fails)))
-
--- a step that was read is spelled
-step_sound : (falls : Bool) (name : List ℕ) (i : Input) → spelled_kind name ≡ token.Name → AreLexical (words i)
-    → Reads (rule.step falls name i) (λ q. (s : tree.Step) × Took i (step_words falls name s) q.1 × (bare q.1 ≡ bare i))
-unfolding rule.step next spelled_kind
-step_sound falls name i named g = reads_if (sees name i)
-    (λ is.
-    let t = took_word name token.Name refl named i g is in
-    reads_map (behind_name_sound (place i) falls name (next i) named t.lexical) (λ q s. (s.0, subst (λ (ws : List Word). Took i ws q.1) (sym s.2) (took_then t s.3), s.4)))
-    (λ _. reads_if (sees (rule.twice falls) i)
-    (λ is.
-    let t = twice_sound falls i g is in
-    reads_map (in_step_sound (place i) token.Name refl name named (next i) t.lexical) (λ q n. (tree.plus_plus_name, took_then t n.0, n.1)))
-    (λ _. fails))
-
--- a bound with small numbers was given
-bound_sound : (start : ℕ) (o : Option (List ℤ)) (numbers : List ℤ) → rule.bound_of start o ≡ Ok numbers → o ≡ Some numbers
-bound_sound start None numbers e = absurd cc
-bound_sound start (Some ns) numbers e = cc
-
--- a bound, up to its `;`
-BoundSound : ℕ → List Word → (List ℤ → List ℤ → Type 0) → Input → List ℤ × Input → Type 0
-BoundSound b ws gives i q = (a : affine_tree.Affine) × (f : Form) × Took i (ws ++ (affine_words a ++ (a_symbol (codes ";") ∷ []))) q.1 × (affine_means b a (bare i) ≡ Some (f, bare q.1)) × gives f.numbers q.0
-
--- a first bound that was read is spelled
-first_sound : (b : ℕ) (i : Input) → AreLexical (words i) → Reads (rule.first_bound b i) (BoundSound b (a_symbol (codes "=") ∷ []) (λ ns row. ns ≡ row) i)
-unfolding rule.first_bound BoundSound spelled_kind
-first_sound b i g =
-    reads_then (expect (codes "=") i) _ (word_sound token.Symbol refl (codes "=") refl i g) (λ x s.
-    reads_then (affine b None x.1) _ (affine_sound b None x.1 s.0.lexical) (λ p a.
-    reads_then (closed_by (codes ";") p.0 p.1) _ (closed_by_sound (codes ";") p.0 p.1 refl a.1.lexical) (λ r c. gives (
-      a.0,
-      form_of p.0,
-      took_then s.0 (took_then a.1 c.0),
-      ap (affine_means b a.0) (sym s.1) ∙ a.2 ∙ ap (λ (s : Names). Some (form_of p.0, s)) (sym c.2),
-      ap (λ (f : Form). f.numbers) (sym c.1),
-    ))))
-
--- a bound behind its comparison that was read is spelled
-last_sound : (b : ℕ) (less : ℤ) (i : Input) → AreLexical (words i) → Reads (rule.last_from b (place i) less i) (BoundSound b [] (λ ns row. combined (pos 1) less zeros ns ≡ Some row) i)
-unfolding rule.last_from rule.bound BoundSound spelled_kind
-last_sound b less i g =
-    reads_then (affine b None i) _ (affine_sound b None i g) (λ p a.
-    reads_given (rule.bound (place i) less p.0.numbers) _ p.1 (λ numbers e.
-    reads_then (closed_by (codes ";") p.0 p.1) _ (closed_by_sound (codes ";") p.0 p.1 refl a.1.lexical) (λ k d.
-    gives (a.0, form_of p.0, took_then a.1 d.0, a.2 ∙ ap (λ (s : Names). Some (form_of p.0, s)) (sym d.2), bound_sound (place i) _ numbers e))))
-
--- the rest of a header was taken behind its first bound
-RestSound : ℕ → List ℕ → ℕ → List ℤ → Input → Header × Input → Type 0
-RestSound b name at first i q =
-    (falls : Bool) × (excludes : Bool) × (step : tree.Step) × (a : affine_tree.Affine) × (f : Form) × (row : List ℤ)
-    × Took i (a_name name ∷ bound_word falls excludes ∷ (affine_words a ++ (a_symbol (codes ";") ∷ step_words falls name step))) q.1
-    × (affine_means b a (bare i) ≡ Some (f, bare q.1)) × (mean.last_bound falls excludes f.numbers ≡ Some row) × (q.0 ≡ rule.header_by at falls first row)
-
--- the rest of a header that was read is spelled
-rest_sound : (b : ℕ) (name : List ℕ) (at : ℕ) (first : List ℤ) (i : Input) → spelled_kind name ≡ token.Name → AreLexical (words i) → Reads (rule.header_from b name at first i) (RestSound b name at first i)
-unfolding rule.header_from RestSound BoundSound
-rest_sound b name at first i named g =
-    reads_then (expect name i) _ (word_sound token.Name refl name named i g) (λ n s.
-    reads_then (rule.comparison n.1) _ (comparison_sound n.1 s.0.lexical) (λ r c.
-    reads_then (rule.last_from b (place r.1) r.0.less r.1) _ (last_sound b r.0.less r.1 c.2.lexical) (λ last l.
-    reads_then (rule.step r.0.down name last.1) _ (step_sound r.0.down name last.1 named l.2.lexical) (λ q t. gives (
-      c.0,
-      c.1,
-      t.0,
-      l.0,
-      l.1,
-      last.0,
-      subst (λ (falls : Bool). Took i (a_name name ∷ bound_word c.0 c.1 ∷ (affine_words l.0 ++ (a_symbol (codes ";") ∷ step_words falls name t.0))) q.1) c.4
-          (subst (λ (ws : List Word). Took i (a_name name ∷ bound_word c.0 c.1 ∷ ws) q.1) (append_assoc (affine_words l.0) (a_symbol (codes ";") ∷ []) (step_words r.0.down name t.0))
-          (took_then (took_then s.0 c.2) (took_then l.2 t.1))),
-      ap (affine_means b l.0) (sym s.1 ∙ sym c.3) ∙ l.3 ∙ ap (λ (s : Names). Some (l.1, s)) (sym t.2),
-      ap (λ (z : ℤ). combined (pos 1) z zeros l.1.numbers) (sym c.5) ∙ l.4,
-      ap (λ (falls : Bool). rule.header_by at falls first last.0) c.4,
-    )))))
-
--- a header was taken behind its bracket and its `int`
-HeaderOfSound : ℕ → Bool → Input → Header × Input → Type 0
-HeaderOfSound b has_int i q = (h : tree.Header) × (h.has_int ≡ has_int) × Took i (a_name h.name ∷ bounds_words h) q.1 × (header_means b h (bare i) ≡ Some (q.0, bare q.1))
-
--- a header that was read is spelled, behind its bracket and its `int`
-header_of_sound : (b : ℕ) (has_int : Bool) (i : Input) → AreLexical (words i) → Reads (rule.header_of b (spelling i) i) (HeaderOfSound b has_int i)
-unfolding rule.header_of BoundSound RestSound HeaderOfSound header_means spelled_kind
-header_of_sound b has_int i g =
-    reads_then (rule.loop_name i) _ (loop_name_sound i g) (λ p n.
-    let named : spelled_kind (spelling i) ≡ token.Name = sym (kind_spelled i g) ∙ ap class (name_kind_is (kind i) n.2) in
-    reads_then (rule.first_bound b p.1) _ (first_sound b p.1 n.0.lexical) (λ first l.
-    reads_then (rule.header_from b (spelling i) p.0 first.0 first.1) _ (rest_sound b (spelling i) p.0 first.0 first.1 named l.2.lexical) (λ rest u.
-    reads_then (expect (codes ")") rest.1) _ (word_sound token.Symbol refl (codes ")") refl rest.1 u.6.lexical) (λ c x. gives (
-      record { has_int = has_int; name = spelling i; falls = u.0; first = l.0; excludes = u.1; last = u.3; step = u.2 },
-      refl,
-      subst (λ (ws : List Word). Took i ws c.1) (simp append_assoc) (took_then n.0 (took_then l.2 (took_then u.6 x.0))),
-      means_then _ _ n.1 (means_then _ _ l.3 (means_then _ _ u.7 (means_given _ _ _ u.8
-          (ap (λ (ns : List ℤ). Some (rule.header_by p.0 u.0 ns u.5, bare rest.1)) l.4
-          ∙ ap (λ (h : Header). Some (h, bare rest.1)) (sym u.9)
-          ∙ ap (λ (s : Names). Some (rest.0, s)) (sym x.1))))),
-    )))))
-
--- a header was taken that means this loop, where one bracket more could be opened
-unfoldable pub HeaderSound : ℕ → Input → Header × Input → Type 0
-HeaderSound b i q = (d : ℕ) × (b ≡ suc d) × (h : tree.Header) × Took i (header_words h) q.1 × (header_means d h (bare i) ≡ Some (q.0, bare q.1))
-
--- `for`, its bracket and `int` stand in front of it
-header_joined : (b d : ℕ) (has_int : Bool) (i j : Input) (q : Header × Input) → b ≡ suc d → Took i (a_keyword (codes "for") ∷ a_symbol (codes "(") ∷ tree.int_words has_int) j → bare j ≡ bare i → HeaderOfSound d has_int j q
-    → HeaderSound b i q
-unfolding HeaderOfSound HeaderSound
-header_joined b d has_int i j q is t same h = (
-  d,
-  is,
-  h.0,
-  took_then (subst (λ (x : Bool). Took i (a_keyword (codes "for") ∷ a_symbol (codes "(") ∷ tree.int_words x) j) (sym h.1) t) h.2,
-  ap (header_means d h.0) (sym same) ∙ h.3,
-)
-
--- a header that was read is spelled
-pub header_sound : (b : ℕ) (i : Input) → AreLexical (words i) → sees (codes "for") i ≡ true → Reads (rule.header b i) (HeaderSound b i)
-unfolding rule.header rule.for_bracket rule.skip_int next spelled_kind
-header_sound b i g seen = reads_then (rule.for_bracket b i) _ {Q = λ (p : Unit {0} × Input). (d : ℕ) × (b ≡ suc d) × (p.1 ≡ next (next i)) × (sees (codes "(") (next i) ≡ true)}
-    (reads_if (sees (codes "(") (next i)) (λ is. reads_map (open_bracket_sound b (next i)) (λ p o. (o.0, o.1, o.2, is))) (λ _. fails)) (λ p o.
-    let t = took_word (codes "for") token.Word refl refl i g seen in
-    let u = took_symbol (codes "(") refl (next i) t.lexical o.3 in
-    let less : b - 1 ≡ o.0 = ap (λ (n : ℕ). n - 1) o.1 ∙ one_less o.0 in
-    rw (o.2, less) (bool_cases (sees (codes "int") (next (next i))) (λ int.
-    let w = took_word (codes "int") token.Word refl refl (next (next i)) u.lexical int in
-    rw int (reads_map (header_of_sound o.0 true (next (next (next i))) w.lexical) (λ q h. header_joined b o.0 true i (next (next (next i))) q o.1 (took_then t (took_then u w)) refl h)))
-    (λ none. rw none (reads_map (header_of_sound o.0 false (next (next i)) u.lexical) (λ q h. header_joined b o.0 false i (next (next i)) q o.1 (took_then t u) refl h)))))
+use Rattle.c_reading.specs.Items.{most_statements, first_reads, is_array, is_end}
+use Rattle.c_reading.specs.Compare.{Rows, compares, all_compares}
+use Rattle.c_grammar.proofs.SoundHeaders.{HeaderSound, bracket_sound, header_sound}
 
 -- ---- statements
 
@@ -256,9 +53,9 @@ assign_sound b i g is =
     ))))
 
 -- a statement that was read is an item
-statement_sound : (more b : ℕ) (before : Items) (i : Input) → AreLexical (words i) → is_name_kind (kind i) ≡ true → Reads (rule.statement b before i) (Spells item_words (item_means more b before) i)
+statement_sound : (more room b : ℕ) (before : Items) (i : Input) → AreLexical (words i) → is_name_kind (kind i) ≡ true → Reads (rule.statement b before i) (Spells item_words (item_means more room b before) i)
 unfolding rule.statement rule.counted rule.count_statements item_means statement_means kind_of spelled_kind
-statement_sound more b before i g is =
+statement_sound more room b before i g is =
     bool_cases (is_array (kind_of (spelling i) i)) (λ array. rw array (
     bool_cases (nat_le most_statements i.statements) (λ full. rw full fails) (λ few. rw few (
     reads_then (rule.assign b i) _ (assign_sound b i g is) (λ r a.
@@ -274,132 +71,147 @@ statement_sound more b before i g is =
 -- ---- loops and blocks
 
 -- a loop means its header and its item, where a bracket may be opened
-loop_is : (more b d : ℕ) (before : Items) (h : tree.Header) (t : tree.Item) (s : Names) (o : Option (Items × Names)) → b ≡ suc d
-    → mean.then_in (header_means d h s) (λ l. λ s. mean.then_in (mean.then_in (mean.begin (most_loops - 1 - more) l.name s) (λ _. item_means more b done t)) (λ body. λ s. mean.then_in (mean.end l.name s) (λ _. mean.pure (with_item before (read.loop l body))))) ≡ o
-    → item_means (suc more) b before (tree.loop h t) s ≡ o
+loop_is : (more room b d : ℕ) (before : Items) (h : tree.Header) (t : tree.Item) (s : Names) (o : Option (Items × Names)) → b ≡ suc d
+    → mean.then_in (header_means d h s) (λ l. λ s. mean.then_in (mean.then_in (mean.begin (most_loops - 1 - more) l.name s) (λ _. item_means more room b done t)) (λ body. λ s. mean.then_in (mean.end l.name s) (λ _. mean.pure (with_item before (read.loop l body))))) ≡ o
+    → item_means (suc more) room b before (tree.loop h t) s ≡ o
 unfolding item_means
-loop_is more b d before h t s o is e = let f = rw is at e in rw is f
+loop_is more room b d before h t s o is e = let f = rw is at e in rw is f
 
 -- a loop that was read is an item
-for_loop_sound : (more b : ℕ) (item : Items → Rule Items) → ((before : Items) (i : Input) → AreLexical (words i) → Reads (item before i) (Spells item_words (item_means more b before) i))
-    → (before : Items) (i : Input) → AreLexical (words i) → sees (codes "for") i ≡ true → Reads (rule.for_loop item (most_loops - 1 - more) b before i) (Spells item_words (item_means (suc more) b before) i)
+for_loop_sound : (more room b : ℕ) (item : Items → Rule Items) → ((before : Items) (i : Input) → AreLexical (words i) → Reads (item before i) (Spells item_words (item_means more room b before) i))
+    → (before : Items) (i : Input) → AreLexical (words i) → sees (codes "for") i ≡ true → Reads (rule.for_loop item (most_loops - 1 - more) b before i) (Spells item_words (item_means (suc more) room b before) i)
 unfolding rule.for_loop rule.opened rule.closed HeaderSound mean.begin mean.end with_kind
-for_loop_sound more b item below before i g seen =
+for_loop_sound more room b item below before i g seen =
     reads_then (rule.header b i) _ (header_sound b i g seen) (λ p h.
     let j : Input = with_kind p.0.name (OpenLoop (most_loops - 1 - more)) p.1 in
     reads_then (item done j) _ (below done j h.3.lexical) (λ r t.
     let inner : Took p.1 (item_words t.0) r.1 = record { spelled = t.1.spelled; lexical = t.1.lexical } in
-    gives (tree.loop h.2 t.0, took_as _ refl (took_then h.3 inner), loop_is more b h.0 before h.2 t.0 (bare i) _ h.1 (means_then _ _ h.4 (means_then _ _ t.2 refl)))))
+    gives (tree.loop h.2 t.0, took_as _ refl (took_then h.3 inner), loop_is more room b h.0 before h.2 t.0 (bare i) _ h.1 (means_then _ _ h.4 (means_then _ _ t.2 refl)))))
 
 -- items of a block that were read are spelled
-block_items_sound : (more b : ℕ) (item : Items → Rule Items) → ((before : Items) (i : Input) → AreLexical (words i) → Reads (item before i) (Spells item_words (item_means more b before) i))
-    → (n : ℕ) (before : Items) (i : Input) → AreLexical (words i) → Reads (rule.block_items item n before i) (SpellsUpTo (a_symbol (codes "}")) items_words (items_means more b before) i)
+block_items_sound : (more room b : ℕ) (item : Items → Rule Items) → ((before : Items) (i : Input) → AreLexical (words i) → Reads (item before i) (Spells item_words (item_means more room b before) i))
+    → (n : ℕ) (before : Items) (i : Input) → AreLexical (words i) → Reads (rule.block_items item n before i) (SpellsUpTo (a_symbol (codes "}")) items_words (items_means more room b before) i)
 unfolding rule.block_items items_means next spelled_kind
-block_items_sound more b item below zero before i g = fails
-block_items_sound more b item below (suc n) before i g = reads_if (sees (codes "}") i) (λ is. gives (tree.item_end, i, took_none g, took_symbol (codes "}") refl i g is, refl)) (λ _.
+block_items_sound more room b item below zero before i g = fails
+block_items_sound more room b item below (suc n) before i g = reads_if (sees (codes "}") i) (λ is. gives (tree.item_end, i, took_none g, took_symbol (codes "}") refl i g is, refl)) (λ _.
     reads_then (item before i) _ (below before i g) (λ p t.
-    reads_map (block_items_sound more b item below n p.0 p.1 t.1.lexical) (λ q r. (tree.item t.0 r.0, r.1, took_then t.1 r.2, r.3, means_then _ _ t.2 r.4))))
+    reads_map (block_items_sound more room b item below n p.0 p.1 t.1.lexical) (λ q r. (tree.item t.0 r.0, r.1, took_then t.1 r.2, r.3, means_then _ _ t.2 r.4))))
 
-module _ (more : ℕ) (loop : ℕ → Items → Rule Items)
-    (loop_sound : (b : ℕ) (before : Items) (i : Input) → AreLexical (words i) → sees (codes "for") i ≡ true → Reads (loop b before i) (Spells item_words (item_means more b before) i)) where
+-- a fault stays one in an `if`
+in_if_sound : {A : Type 0} (start : ℕ) (o : Outcome A) {Q : A × Input → Type 0} → Reads o Q → Reads (rule_guard.in_if start o) Q
+in_if_sound start (Ok p) h = h
+in_if_sound start (Err e) h = fails
+
+-- what an `if` asks was taken, where one bracket more could be opened
+unfoldable pub AskedSound : ℕ → ℕ → Input → Rows × Input → Type 0
+AskedSound b room i q = (d : ℕ) × (b ≡ suc d) × (cs : Compares) × Took i (conditions_words cs) q.1 × (compares_mean d room [] cs (bare i) ≡ Some (q.0, bare q.1))
+
+-- what an `if` asks is spelled
+conditions_sound : (b room : ℕ) (i : Input) → AreLexical (words i) → sees (codes "if") i ≡ true → Reads (rule_guard.conditions b room i) (AskedSound b room i)
+unfolding rule_guard.conditions rule_guard.asked all_compares AskedSound next spelled_kind
+conditions_sound b room i g seen = reads_then (rule_guard.bracket_behind b i) _ (bracket_sound b i) (λ p o.
+    let t = took_word (codes "if") token.Word refl refl i g seen in
+    let u = took_symbol (codes "(") refl (next i) t.lexical o.3 in
+    let less : b - 1 ≡ o.0 = ap (λ (n : ℕ). n - 1) o.1 ∙ one_less o.0 in
+    rw (o.2, less) (in_if_sound (place i) _ (
+    reads_then (compares o.0 room (left (next (next i))) [] (next (next i))) _ (compares_sound o.0 room (left (next (next i))) [] (next (next i)) u.lexical) (λ c cs.
+    reads_then (closed_by (codes ")") c.0.last c.1) _ (closed_by_sound (codes ")") c.0.last c.1 refl cs.1.lexical) (λ q w. gives (
+      o.0,
+      o.1,
+      cs.0,
+      took_then t (took_then u (took_then cs.1 w.0)),
+      cs.2 ∙ ap (λ (s : Names). Some (c.0.rows, s)) (sym w.2),
+    ))))))
+
+-- a guard means its compares and its item, where a bracket may be opened
+guard_is : (more room b d : ℕ) (before : Items) (cs : Compares) (t : tree.Item) (s : Names) (o : Option (Items × Names)) → b ≡ suc d
+    → mean.then_in (compares_mean d room [] cs s) (λ rows. λ s. mean.then_in (item_means more (room - length rows) b done t s) (λ body. mean.pure (with_item before (read.guard rows body)))) ≡ o
+    → item_means more room b before (tree.guarded cs t) s ≡ o
+unfolding item_means
+guard_is more room b d before cs t s o is e = let f = rw is at e in rw is f
+
+-- where no `else` stands, what follows is read
+no_else_sound : {A : Type 0} (i : Input) (f : Rule A) {Q : A × Input → Type 0} → Reads (f i) Q → Reads (and_then (rule_guard.no_else i) (λ _. f)) Q
+unfolding rule_guard.no_else
+no_else_sound i f h = bool_cases (sees (codes "else") i) (λ is. rw is fails) (λ none. rw none h)
+
+-- a guard that was read is an item, where its item is told how many rows were taken
+guard_sound : (more room b : ℕ) (item : ℕ → ℕ → Items → Rule Items)
+    → ((rows : Rows) (before : Items) (i : Input) → 0 < length rows → length rows ≤ room → AreLexical (words i) → Reads (item (length rows - 1) b before i) (Spells item_words (item_means more (room - length rows) b before) i))
+    → (before : Items) (i : Input) → AreLexical (words i) → sees (codes "if") i ≡ true → Reads (rule.guard item room b before i) (Spells item_words (item_means more room b before) i)
+unfolding rule.guard AskedSound
+guard_sound more room b item below before i g seen =
+    reads_then (rule_guard.conditions b room i) _ (conditions_sound b room i g seen) (λ p a.
+    let some = compares_more a.0 room [] a.2 (bare i) (p.0, bare p.1) a.4 in
+    reads_then (item (length p.0 - 1) b done p.1) _ (below p.0 done p.1 some.some some.few a.3.lexical) (λ r t.
+    no_else_sound r.1 _ (gives (
+      tree.guarded a.2 t.0,
+      took_then a.3 t.1,
+      guard_is more room b a.0 before a.2 t.0 (bare i) _ a.1 (means_then _ _ a.4 (means_then _ _ t.2 refl)),
+    ))))
+
+module _ (more room : ℕ) (loop guard : ℕ → Items → Rule Items)
+    (loop_sound : (b : ℕ) (before : Items) (i : Input) → AreLexical (words i) → sees (codes "for") i ≡ true → Reads (loop b before i) (Spells item_words (item_means more room b before) i))
+    (guards_sound : (b : ℕ) (before : Items) (i : Input) → AreLexical (words i) → sees (codes "if") i ≡ true → Reads (guard b before i) (Spells item_words (item_means more room b before) i)) where
   -- an item that was read is spelled, where blocks are
-  item_by_sound : (b : ℕ) (block : Items → Rule Items) → ((before : Items) (i : Input) → AreLexical (words i) → sees (codes "{") i ≡ true → Reads (block before i) (Spells item_words (item_means more b before) i))
-      → (before : Items) (i : Input) → AreLexical (words i) → Reads (rule.item_by block (loop b) b before i) (Spells item_words (item_means more b before) i)
+  item_by_sound : (b : ℕ) (block : Items → Rule Items) → ((before : Items) (i : Input) → AreLexical (words i) → sees (codes "{") i ≡ true → Reads (block before i) (Spells item_words (item_means more room b before) i))
+      → (before : Items) (i : Input) → AreLexical (words i) → Reads (rule.item_by block (loop b) (guard b) b before i) (Spells item_words (item_means more room b before) i)
   unfolding rule.item_by item_means next spelled_kind
   item_by_sound b block below before i g = reads_if (sees (codes ";") i) (λ is. gives (tree.nothing, took_symbol (codes ";") refl i g is, refl)) (λ _.
       reads_if (sees (codes "{") i) (λ is. below before i g is) (λ _.
       reads_if (sees (codes "for") i) (λ is. loop_sound b before i g is) (λ _.
-      reads_if (sees (codes "if") i) (λ _. fails) (λ _.
-      reads_if (is_name_kind (kind i)) (λ is. statement_sound more b before i g is) (λ _. fails)))))
+      reads_if (sees (codes "if") i) (λ is. guards_sound b before i g is) (λ _.
+      reads_if (is_name_kind (kind i)) (λ is. statement_sound more room b before i g is) (λ _. fails)))))
 
   -- a block that was read is an item
-  block_sound : (b : ℕ) (before : Items) (i : Input) → AreLexical (words i) → sees (codes "{") i ≡ true → Reads (rule.block loop b before i) (Spells item_words (item_means more b before) i)
+  block_sound : (b : ℕ) (before : Items) (i : Input) → AreLexical (words i) → sees (codes "{") i ≡ true → Reads (rule.block loop guard b before i) (Spells item_words (item_means more room b before) i)
   unfolding rule.block rule.all_block_items item_means next spelled_kind
   block_sound zero before i g is = fails
   block_sound (suc b) before i g is =
       let t = took_symbol (codes "{") refl i g is in
-      reads_map (block_items_sound more b (rule.item_by (rule.block loop b) (loop b) b) (item_by_sound b (rule.block loop b) (block_sound b)) (left (next i)) before (next i) t.lexical) (λ q r. (tree.block r.0, took_then t (took_then r.2 r.3), r.4))
+      reads_map (block_items_sound more room b (rule.item_by (rule.block loop guard b) (loop b) (guard b) b) (item_by_sound b (rule.block loop guard b) (block_sound b)) (left (next i)) before (next i) t.lexical) (λ q r. (tree.block r.0, took_then t (took_then r.2 r.3), r.4))
 
   -- an item that was read is spelled
-  item_over_sound : (b : ℕ) (before : Items) (i : Input) → AreLexical (words i) → Reads (rule.item_over loop b before i) (Spells item_words (item_means more b before) i)
+  item_over_sound : (b : ℕ) (before : Items) (i : Input) → AreLexical (words i) → Reads (rule.item_over loop guard b before i) (Spells item_words (item_means more room b before) i)
   unfolding rule.item_over
-  item_over_sound b before i g = item_by_sound b (rule.block loop b) (block_sound b) before i g
+  item_over_sound b before i g = item_by_sound b (rule.block loop guard b) (block_sound b) before i g
+
+module _ (more : ℕ) (loop : ℕ → ℕ → Items → Rule Items)
+    (loop_sound : (room b : ℕ) (before : Items) (i : Input) → AreLexical (words i) → sees (codes "for") i ≡ true → Reads (loop room b before i) (Spells item_words (item_means more room b before) i)) where
+  -- an item that was read is spelled, behind the rows that were taken
+  item_behind_sound : (room taken b : ℕ) (before : Items) (i : Input) → AreLexical (words i) → Reads (rule.item_behind loop room taken b before i) (Spells item_words (item_means more (room - taken) b before) i)
+  unfolding rule.item_behind
+  item_behind_sound zero taken b before i g =
+      let none : zero - taken ≡ zero = omega arith in
+      rw none (item_over_sound more zero (loop 0) (rule.guard (λ rows brackets items. refuse) 0) (loop_sound zero) (λ b. guard_sound more zero b _ (λ rows before i some few g. absurd (omega arith))) b before i g)
+  item_behind_sound (suc room) zero b before i g =
+      let whole : suc room - zero ≡ suc room = omega arith in
+      rw whole (item_over_sound more (suc room) (loop (suc room)) (rule.guard (rule.item_behind loop room) (suc room)) (loop_sound (suc room))
+      (λ b. guard_sound more (suc room) b (rule.item_behind loop room) (λ rows before i some few g.
+      let left_over : suc room - length rows ≡ room - (length rows - 1) = omega arith in
+      rw left_over (item_behind_sound room (length rows - 1) b before i g))) b before i g)
+  item_behind_sound (suc room) (suc taken) b before i g =
+      let less : suc room - suc taken ≡ room - taken = omega arith in
+      rw less (item_behind_sound room taken b before i g)
 
 -- a loop that was read is an item, where so many may be opened
-loops_sound : (more b : ℕ) (before : Items) (i : Input) → AreLexical (words i) → sees (codes "for") i ≡ true → Reads (rule.loops more b before i) (Spells item_words (item_means more b before) i)
+loops_sound : (more room b : ℕ) (before : Items) (i : Input) → AreLexical (words i) → sees (codes "for") i ≡ true → Reads (rule.loops more room b before i) (Spells item_words (item_means more room b before) i)
 unfolding rule.loops
-loops_sound zero b before i g is = fails
-loops_sound (suc more) b before i g is = for_loop_sound more b (rule.item_over (rule.loops more) b) (item_over_sound more (rule.loops more) (loops_sound more) b) before i g is
+loops_sound zero room b before i g is = fails
+loops_sound (suc more) room b before i g is =
+    let whole : room - 0 ≡ room = omega arith in
+    for_loop_sound more room b (rule.item_behind (rule.loops more) room 0 b) (λ before i g. subst (λ n. Reads (rule.item_behind (rule.loops more) room 0 b before i) (Spells item_words (item_means more n b before) i)) whole (item_behind_sound more (rule.loops more) (loops_sound more) room 0 b before i g)) before i g is
+
+-- an item that was read is spelled
+item_sound : (before : Items) (i : Input) → AreLexical (words i) → Reads (rule.item most_loops most_guards 64 before i) (Spells item_words (item_means most_loops most_guards 64 before) i)
+unfolding rule.item
+item_sound before i g = item_behind_sound most_loops (rule.loops most_loops) (loops_sound most_loops) most_guards 0 64 before i g
 
 -- items that were read are spelled
-items_sound : (n : ℕ) (before : Items) (i : Input) → AreLexical (words i)
-    → Reads (rule.items n before i) (λ q. (ts : tree.Items) × Took i (items_words ts) q.1 × (words q.1 ≡ program_end ∷ []) × (items_means most_loops 64 before ts (bare i) ≡ Some (q.0, bare q.1)))
-unfolding rule.items rule.item items_means
+pub items_sound : (n : ℕ) (before : Items) (i : Input) → AreLexical (words i)
+    → Reads (rule.items n before i) (λ q. (ts : tree.Items) × Took i (items_words ts) q.1 × (words q.1 ≡ program_end ∷ []) × (items_means most_loops most_guards 64 before ts (bare i) ≡ Some (q.0, bare q.1)))
+unfolding rule.items items_means
 items_sound zero before i g = fails
 items_sound (suc n) before i g = reads_if (is_end (kind i)) (λ is. gives (tree.item_end, took_none g, end_words (words i) g (sym (kind_is i) ∙ end_is (kind i) is), refl)) (λ _.
-    reads_then (rule.item most_loops 64 before i) _ (item_over_sound most_loops (rule.loops most_loops) (loops_sound most_loops) 64 before i g) (λ p t.
+    reads_then (rule.item most_loops most_guards 64 before i) _ (item_sound before i g) (λ p t.
     reads_map (items_sound n p.0 p.1 t.1.lexical) (λ q r. (tree.item t.0 r.0, took_then t.1 r.1, r.2, means_then _ _ t.2 r.3))))
-
--- a line's names that were read are spelled
-parameter_names_sound : (n : ℕ) (i : Input) → AreLexical (words i) → Reads (head_rule.parameter_names n i) (SpellsUpTo line_end (map a_name) parameters_mean i)
-unfolding head_rule.parameter_names parameters_mean next
-parameter_names_sound zero i g = fails
-parameter_names_sound (suc n) i g = reads_if (is_line_end (kind i)) (λ is. gives ([], i, took_none g, took_line_end i g is, refl)) (λ _.
-    reads_if (is_name_kind (kind i)) (λ is. reads_then (slot i) _ (slot_sound i g is) (λ p s.
-    reads_map (parameter_names_sound n p.1 s.0.lexical) (λ q r. (spelling i ∷ r.0, r.1, took_then s.0 r.2, r.3, means_then _ _ s.1 r.4)))) (λ _. fails))
-
--- a line's compares that were read are spelled
-compares_sound : (n : ℕ) (rows : Rows) (i : Input) → AreLexical (words i) → Reads (head_rule.compares n rows i) (SpellsUpTo line_end compares_words (compares_mean rows) i)
-unfolding head_rule.compares head_rule.closed_line compares_mean compare next spelled_kind
-compares_sound zero rows i g = fails
-compares_sound (suc n) rows i g = reads_then (compare rows i) _ (compare_from_sound (place i) rows i g) (λ p c. reads_if (sees (codes "&&") p.1)
-    (λ is.
-    let t = took_symbol (codes "&&") refl p.1 c.1.lexical is in
-    reads_map (compares_sound n p.0.rows (next p.1) t.lexical) (λ q r. (text_tree.compare c.0 r.0, r.1, took_then c.1 (took_then t r.2), r.3, means_then _ _ c.2 r.4)))
-    (λ _. gives_if (is_line_end (kind p.1)) _ _ (λ is. (text_tree.last_compare c.0, p.1, c.1, took_line_end p.1 c.1.lexical is, c.2))))
-
--- the lines in front of a program that were read are spelled
-directives_sound : (n : ℕ) (h : Head) (i : Input) → AreLexical (words i) → Reads (head_rule.directives n h i) (Spells lines_words (lines_mean h) i)
-unfolding head_rule.directives head_rule.all_parameter_names head_rule.all_compares lines_mean next
-directives_sound zero h i g = fails
-directives_sound (suc n) h i g = reads_if (is_parameters (kind i))
-    (λ is.
-    let t = took_kind token.Parameters i refl g (parameters_is (kind i) is) in
-    reads_then (head_rule.parameter_names (left (next i)) (next i)) _ (parameter_names_sound (left (next i)) (next i) t.lexical) (λ p s.
-    reads_map (directives_sound n h p.1 s.3.lexical) (λ q r. (text_tree.parameters (spelling i) s.0 r.0, took_then t (took_then s.2 (took_then s.3 r.1)), means_then _ _ s.4 r.2))))
-    (λ _. reads_if (is_assumptions (kind i))
-    (λ is.
-    let t = took_kind token.Assumptions i refl g (assumptions_is (kind i) is) in
-    reads_then (head_rule.compares (left (next i)) h.rows (next i)) _ (compares_sound (left (next i)) h.rows (next i) t.lexical) (λ p s.
-    reads_map (directives_sound n (record { assumed = true; rows = p.0 }) p.1 s.3.lexical) (λ q r. (text_tree.assumptions (spelling i) s.0 r.0, took_then t (took_then s.2 (took_then s.3 r.1)), means_then _ _ s.4 r.2))))
-    (λ _. gives (text_tree.line_none, took_none g, refl)))
-
--- a text's words that were read are spelled
-text_rule_sound : (i : Input) → AreLexical (words i)
-    → Reads (whole.text_rule i) (λ q. (t : Text) × (words i ≡ text_words t) × (whole_means t (bare i) ≡ Some (q.0, bare q.1)))
-unfolding whole.text_rule head_rule.head whole_means all_items
-text_rule_sound i g =
-    let h : Head = record { assumed = false; rows = [] } in
-    reads_then (head_rule.directives (left i) h i) _ (directives_sound (left i) h i g) (λ p ls.
-    reads_then (rule.items (left p.1) done p.1) _ (items_sound (left p.1) done p.1 ls.1.lexical) (λ r ts. gives (
-      record { lines = ls.0; items = ts.0 },
-      ls.1.spelled ∙ ap (λ (ws : List Word). lines_words ls.0 ++ ws) (ts.1.spelled ∙ ap (λ (ws : List Word). items_words ts.0 ++ ws) ts.2),
-      means_then _ _ ls.2 (means_then _ _ ts.3 refl),
-    )))
-
--- a text that was read is spelled
-reading_sound : (bytes : List ℕ) (tokens : List Token) (r : Reading) (o : Outcome (Head × Items)) → whole.text_rule (start_of bytes tokens) ≡ o → AreLexical (words (start_of bytes tokens)) → whole.reading_from o ≡ Ok r
-    → (t : Text) × (words (start_of bytes tokens) ≡ text_words t) × (text_means t ≡ Some r)
-unfolding whole.assumptions_of
-reading_sound bytes tokens r (Err x) is g e = absurd cc
-reading_sound bytes tokens r (Ok q) is g e =
-    let t = (text_rule_sound (start_of bytes tokens) g).reads q is in
-    (t.0, t.1, ap mean.reading_from t.2 ∙ ap Some (same_ok e))
-
--- what is accepted spells the grammar, where the words are lexical
-pub accepted : (bytes : List ℕ) (r : Reading) (o : Option (List Token)) → ((tokens : List Token) → o ≡ Some tokens → AreLexical (map (word_of bytes) tokens)) → whole.reading_by bytes o ≡ Ok r
-    → (tree : Text) × (option_map (map (word_of bytes)) o ≡ Some (text_words tree)) × (text_means tree ≡ Some r)
-accepted bytes r None lexical e = absurd cc
-accepted bytes r (Some tokens) lexical e =
-    let t = reading_sound bytes tokens r _ refl (lexical tokens refl) e in
-    (t.0, ap Some t.1, t.2)

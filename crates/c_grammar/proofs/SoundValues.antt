@@ -9,14 +9,14 @@ use Rattle.c_reading.specs.Numbers.{combined}
 use Rattle.c_reading.specs.Input.{Input, Rule, Outcome, and_then, kind, spelling, next, sees, left, place, is_name_kind, fault_at, is_number_kind}
 use Rattle.c_reading.specs.Affine.{Affine, kind_of, with_name, closed_by, affine, is_short, all_signs}
 use Rattle.c_reading.specs.Compare as compare_rule
-use Rattle.c_reading.specs.Compare.{Rows, Compared, most_rows, most_brackets, if_row}
+use Rattle.c_reading.specs.Compare.{Rows, Compared, if_row}
 use Rattle.c_reading.specs.Refs as refs
 use Rattle.c_reading.specs.Refs.{with_kind, access}
 use Rattle.c_grammar.specs.Words.{a_name, a_symbol, Word}
 use Rattle.c_grammar.specs.Affine as affine_tree
-use Rattle.c_grammar.specs.Affine.{affine_words, comparison_word, compare_words, subscripts_words, reference_words, Reference, subscript_end}
+use Rattle.c_grammar.specs.Affine.{affine_words, comparison_word, compare_words, compares_words, subscripts_words, reference_words, Reference, subscript_end}
 use Rattle.c_grammar.specs.Meaning as mean
-use Rattle.c_grammar.specs.Meaning.{Names, Form, Seen, affine_means, compare_means, subscripts_means, access_from, reference_means, named_means, name_means, value_means, operands_means, unary_means, arguments_means}
+use Rattle.c_grammar.specs.Meaning.{Names, Form, Seen, affine_means, compare_means, compares_mean, subscripts_means, access_from, reference_means, named_means, name_means, value_means, operands_means, unary_means, arguments_means}
 use Rattle.c_grammar.proofs.Steps.{Spells, domain, suc_not_zero, one_less, words, bare, spelled_kind, AreLexical, Took, is_plain, class, took_then, took_none, took_symbol, took_word, took_name, took_as, same_ok, if_ok, Reads, fails, gives, gives_if, reads_map, reads_then, reads_given, bool_cases, means_then, SpellsUpTo, took_number, reads_if}
 use Rattle.c_grammar.proofs.SoundAffine.{form_of, affine_sound, closed_by_sound, all_signs_sound, with_signs, with_signs-words}
 use Rattle.c_tokens.specs.declared.token.TokenKind.{TokenKind}
@@ -67,11 +67,11 @@ pub as_taken : {c : affine_tree.Comparison} {x taken : Taken} → ◌≡◌ {A =
 as_taken {c} {x} {taken} e s = let same : x ≡ taken = cc in subst (Stands c) same s
 
 -- a comparison that was taken, where its rows aren't too many
-taken : {B : Type 0} {Q : B × Input → Type 0} (start count : ℕ) (a : Affine) (j : Input) (f : Taken → Rule B) (o : Option Taken) → ((c : Taken) → o ≡ Some c → nat_le (count + compare_rule.row_count c) most_rows ≡ true → Reads (f c j) Q)
-    → Reads (and_then (compare_rule.comparison_by start count a o j) f) Q
+taken : {B : Type 0} {Q : B × Input → Type 0} (room start count : ℕ) (a : Affine) (j : Input) (f : Taken → Rule B) (o : Option Taken) → ((c : Taken) → o ≡ Some c → nat_le (count + compare_rule.row_count c) room ≡ true → Reads (f c j) Q)
+    → Reads (and_then (compare_rule.comparison_by room start count a o j) f) Q
 unfolding compare_rule.comparison_by
-taken start count a j f None k = fails
-taken start count a j f (Some c) k = bool_cases (nat_le (count + compare_rule.row_count c) most_rows) (λ few. rw few (k c refl few)) (λ many. rw many fails)
+taken room start count a j f None k = fails
+taken room start count a j f (Some c) k = bool_cases (nat_le (count + compare_rule.row_count c) room) (λ few. rw few (k c refl few)) (λ many. rw many fails)
 
 -- the comparison that is seen
 comparison_sound : (j : Input) (taken : Taken) → AreLexical (words j) → compare_rule.comparison j ≡ Some taken → (c : affine_tree.Comparison) × Took j (comparison_word c ∷ []) (next j) × Stands c taken
@@ -84,22 +84,33 @@ comparison_sound j taken g e =
     if_ok _ _ (sees (codes "==") j) e0 (λ is e1. (affine_tree.equal, took_symbol (codes "==") refl j g is, as_taken e1 (record { count = refl; rows = λ start rows a b. with_both_is start rows a b }))) (λ _ e0. absurd cc)))))
 
 -- rows that aren't too many are meant
-pub few_rows : (rows all : Rows) (c : affine_tree.Comparison) (o : Option Rows) → nat_le (length rows + mean.row_count c) most_rows ≡ true → o ≡ Some all → mean.if_rows rows c o ≡ Some all
-few_rows rows all c o few e = rw few e
+pub few_rows : (room : ℕ) (rows all : Rows) (c : affine_tree.Comparison) (o : Option Rows) → nat_le (length rows + mean.row_count c) room ≡ true → o ≡ Some all → mean.if_rows room rows c o ≡ Some all
+few_rows room rows all c o few e = rw few e
 
 -- a compare that was read is spelled, whatever place its faults have
-pub compare_from_sound : (start : ℕ) (rows : Rows) (i : Input) → AreLexical (words i)
-    → Reads (compare_rule.compare_from start rows i) (λ q. (c : affine_tree.Compare) × Took i (compare_words c) q.1 × (compare_means rows c (bare i) ≡ Some (q.0.rows, bare q.1)))
+pub compare_from_sound : (b room start : ℕ) (rows : Rows) (i : Input) → AreLexical (words i)
+    → Reads (compare_rule.compare_from b room start rows i) (λ q. (c : affine_tree.Compare) × Took i (compare_words c) q.1 × (compare_means b room rows c (bare i) ≡ Some (q.0.rows, bare q.1)))
 unfolding compare_rule.compare_from compare_means next
-compare_from_sound start rows i g =
-    reads_then (affine most_brackets None i) _ (affine_sound most_brackets None i g) (λ p a.
-    taken start (length rows) p.0 p.1 _ (compare_rule.comparison p.1) (λ other seen few.
+compare_from_sound b room start rows i g =
+    reads_then (affine b None i) _ (affine_sound b None i g) (λ p a.
+    taken room start (length rows) p.0 p.1 _ (compare_rule.comparison p.1) (λ other seen few.
     let c = comparison_sound p.1 other a.1.lexical seen in
-    reads_then (affine most_brackets None (next p.1)) _ (affine_sound most_brackets None (next p.1) c.1.lexical) (λ r b.
+    reads_then (affine b None (next p.1)) _ (affine_sound b None (next p.1) c.1.lexical) (λ r y.
     reads_given (compare_rule.with_compare start rows other p.0.numbers r.0.numbers) _ r.1 (λ all e.
-    let few_are : nat_le (length rows + mean.row_count c.0) most_rows ≡ true = ap (λ (n : ℕ). nat_le (length rows + n) most_rows) (sym c.2.count) ∙ few in
+    let few_are : nat_le (length rows + mean.row_count c.0) room ≡ true = ap (λ (n : ℕ). nat_le (length rows + n) room) (sym c.2.count) ∙ few in
     let meant = or_large_ok start _ all (sym (c.2.rows start rows p.0.numbers r.0.numbers) ∙ e) in
-    gives (record { left = a.0; comparison = c.0; right = b.0 }, took_then a.1 (took_then c.1 b.1), means_then _ _ a.2 (means_then _ _ b.2 (ap (λ (o : Option Rows). mean.given o (bare r.1)) (few_rows rows all c.0 _ few_are meant))))))))
+    gives (record { left = a.0; comparison = c.0; right = y.0 }, took_then a.1 (took_then c.1 y.1), means_then _ _ a.2 (means_then _ _ y.2 (ap (λ (o : Option Rows). mean.given o (bare r.1)) (few_rows room rows all c.0 _ few_are meant))))))))
+
+-- compares that were read are spelled
+pub compares_sound : (b room n : ℕ) (rows : Rows) (i : Input) → AreLexical (words i)
+    → Reads (compare_rule.compares b room n rows i) (λ q. (cs : affine_tree.Compares) × Took i (compares_words cs) q.1 × (compares_mean b room rows cs (bare i) ≡ Some (q.0.rows, bare q.1)))
+unfolding compare_rule.compares compare_rule.compare compares_mean next spelled_kind
+compares_sound b room zero rows i g = fails
+compares_sound b room (suc n) rows i g = reads_then (compare_rule.compare_from b room (place i) rows i) _ (compare_from_sound b room (place i) rows i g) (λ p c. reads_if (sees (codes "&&") p.1)
+    (λ is.
+    let t = took_symbol (codes "&&") refl p.1 c.1.lexical is in
+    reads_map (compares_sound b room n p.0.rows (next p.1) t.lexical) (λ q r. (affine_tree.compare c.0 r.0, took_then c.1 (took_then t r.1), means_then _ _ c.2 r.2)))
+    (λ _. gives (affine_tree.last_compare c.0, c.1, c.2)))
 
 -- ---- references
 

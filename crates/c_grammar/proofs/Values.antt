@@ -23,7 +23,7 @@ use Rattle.std.proofs.lemmas.Option.{slice_get_within}
 use Rattle.c_grammar.proofs.Steps.{bool_cases}
 use Rattle.std.specs.List.{AllByRecursion}
 use Rattle.c_reading.specs.declared.tree.Header.{Header as ReadHeader}
-use Rattle.c_reading.specs.Compare.{Rows, most_brackets, most_rows}
+use Rattle.c_reading.specs.Compare.{Rows}
 use Rattle.c_reading.specs.Items.{header_by}
 
 -- ---- sums of rows
@@ -331,20 +331,20 @@ compares_so tree.equal rows all a b p q e = which (with_row rows (pos 0) a b) re
       )
 
 -- rows that aren't too many
-few_rows : (rows all : Rows) (c : tree.Comparison) (o : Option Rows) → if_rows rows c o ≡ Some all → o ≡ Some all
-few_rows rows all c o e = bool_cases (nat_le (length rows + row_count c) most_rows) (λ t. rw t at e) (λ t. let none = rw t at e in cc)
+few_rows : (room : ℕ) (rows all : Rows) (c : tree.Comparison) (o : Option Rows) → if_rows room rows c o ≡ Some all → o ≡ Some all
+few_rows room rows all c o e = bool_cases (nat_le (length rows + row_count c) room) (λ t. rw t at e) (λ t. let none = rw t at e in cc)
 
 -- a comparison holds at a point exactly where the rows that it means are at least 0 there
 pub rows_hold_so : RowsHoldSo
 unfolding compare_means
-rows_hold_so c s r rows all k e =
-    then_some (λ a i. then_in (affine_means most_brackets c.right i) (λ b. given (if_rows rows c.comparison (with_compare rows c.comparison a.numbers b.numbers)))) (affine_means most_brackets c.left s) e (λ x f g.
-    let left = affine_valued most_brackets c.left s x.1 x.0 k f in
-    then_some (λ b. given (if_rows rows c.comparison (with_compare rows c.comparison x.0.numbers b.numbers))) (affine_means most_brackets c.right x.1) g (λ y h i.
-    let right = affine_valued most_brackets c.right x.1 y.1 y.0 left.kinds h in
-    given_last (if_rows rows c.comparison (with_compare rows c.comparison x.0.numbers y.0.numbers)) y.1 i (λ found j is.
+rows_hold_so b room c s r rows all k e =
+    then_some (λ a i. then_in (affine_means b c.right i) (λ end. given (if_rows room rows c.comparison (with_compare rows c.comparison a.numbers end.numbers)))) (affine_means b c.left s) e (λ x f g.
+    let left = affine_valued b c.left s x.1 x.0 k f in
+    then_some (λ end. given (if_rows room rows c.comparison (with_compare rows c.comparison x.0.numbers end.numbers))) (affine_means b c.right x.1) g (λ y h i.
+    let right = affine_valued b c.right x.1 y.1 y.0 left.kinds h in
+    given_last (if_rows room rows c.comparison (with_compare rows c.comparison x.0.numbers y.0.numbers)) y.1 i (λ found j is.
     subst (λ (z : Rows × Names). (more : Rows) × (z.0 ≡ rows ++ more) × ((at : Point) (numbers : List ℤ) → AreNumbersAt z.1 at numbers → AllByRecursion (λ row. pos 0 ≤ℤ row_value row numbers) more ↔ Holds at c)) is (
-    let so = compares_so c.comparison rows found x.0.numbers y.0.numbers left.size right.size (few_rows rows found c.comparison (with_compare rows c.comparison x.0.numbers y.0.numbers) j) in (
+    let so = compares_so c.comparison rows found x.0.numbers y.0.numbers left.size right.size (few_rows room rows found c.comparison (with_compare rows c.comparison x.0.numbers y.0.numbers) j) in (
       so.0,
       so.1,
       λ at ns m.

@@ -76,6 +76,16 @@ comparison_word equal = a_symbol (codes "==")
 abbrev pub compare_words : Compare → List Word
 compare_words c = affine_words c.left ++ (comparison_word c.comparison ∷ affine_words c.right)
 
+-- compare ('&&' compare)*
+pub data Compares : Type 0 where
+  last_compare : Compare → Compares
+  compare : Compare → Compares → Compares
+
+-- their words
+abbrev pub compares_words : Compares → List Word
+compares_words (last_compare c) = compare_words c
+compares_words (compare c cs) = compare_words c ++ (a_symbol (codes "&&") ∷ compares_words cs)
+
 -- ref := name ('[' affine ']')*
 pub data Subscripts : Type 0 where
   subscript_end : Subscripts

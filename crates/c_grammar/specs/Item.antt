@@ -1,7 +1,7 @@
--- Statements, loops and blocks of the grammar, and the words that they spell.
+-- Statements, loops, guards and blocks of the grammar, and the words that they spell.
 use Rattle.std.specs.Prelude.{ℕ, Bool, true, false, List, [], ◌∷◌, ◌++◌, codes}
 use Rattle.c_grammar.specs.Words.{Word, a_name, a_number, a_symbol, a_keyword}
-use Rattle.c_grammar.specs.Affine.{Affine, affine_words, Reference, reference_words}
+use Rattle.c_grammar.specs.Affine.{Affine, affine_words, Compares, compares_words, Reference, reference_words}
 use Rattle.c_grammar.specs.Value.{Value, value_words}
 
 -- assign := ref ('=' | '+=' | '-=' | '*=' | '/=') value
@@ -90,14 +90,20 @@ bounds_words h =
 abbrev pub header_words : Header → List Word
 header_words h = a_keyword (codes "for") ∷ a_symbol (codes "(") ∷ (int_words h.has_int ++ (a_name h.name ∷ bounds_words h))
 
+-- the words of an `if` in front of its item
+abbrev pub conditions_words : Compares → List Word
+conditions_words cs = a_keyword (codes "if") ∷ a_symbol (codes "(") ∷ (compares_words cs ++ (a_symbol (codes ")") ∷ []))
+
 -- scop := item*
--- item := ';' | '{' item* '}' | loop | assign ';'
+-- item := ';' | '{' item* '}' | loop | guard | assign ';'
 -- loop := header item
+-- guard := 'if' '(' compare ('&&' compare)* ')' item
 mutual
   pub data Item : Type 0 where
     nothing : Item
     block : Items → Item
     loop : Header → Item → Item
+    guarded : Compares → Item → Item
     statement : Assign → Item
 
   pub data Items : Type 0 where
@@ -110,6 +116,7 @@ abbrev mutual
   item_words nothing = a_symbol (codes ";") ∷ []
   item_words (block is) = a_symbol (codes "{") ∷ (items_words is ++ (a_symbol (codes "}") ∷ []))
   item_words (loop h i) = header_words h ++ item_words i
+  item_words (guarded cs i) = conditions_words cs ++ item_words i
   item_words (statement a) = assign_words a ++ (a_symbol (codes ";") ∷ [])
 
   pub items_words : Items → List Word

@@ -5,9 +5,9 @@ use Rattle.c_reading.specs.declared.named.Kind.{Kind}
 use Rattle.c_reading.specs.declared.named.Kind.TheVariants as kind
 use Rattle.c_reading.specs.declared.tree.Header.{Header}
 use Rattle.c_reading.specs.Access.{Access, Statement}
-use Rattle.c_reading.specs.Tree.{Items, assign, loop, done, with_item}
+use Rattle.c_reading.specs.Tree.{Items, assign, loop, guard, done, with_item}
 use Rattle.c_reading.specs.Input.{Input}
-use Rattle.c_reading.specs.Numbers.{most_parameters, most_loops, single, parameter_slot, loop_slot, combined, zeros, constant_of, value_from, is_integer}
+use Rattle.c_reading.specs.Numbers.{most_parameters, most_loops, most_guards, single, parameter_slot, loop_slot, combined, zeros, constant_of, value_from, is_integer}
 use Rattle.c_reading.specs.Affine.{kind_of, number_of, with_name, is_short, sign_of}
 use Rattle.c_reading.specs.Compare.{Rows, most_brackets, most_rows}
 use Rattle.c_reading.specs.Head.{Head}
@@ -152,15 +152,20 @@ abbrev pub row_count : tree.Comparison → ℕ
 row_count tree.equal = 2
 row_count _ = 1
 
--- the rows, where they aren't too many with those of a compare
-abbrev pub if_rows : Rows → tree.Comparison → Option Rows → Option Rows
-if_rows rows c more = if nat_le (length rows + row_count c) most_rows then more else None
+-- the rows, where they aren't more than there may be with those of a compare
+abbrev pub if_rows : ℕ → Rows → tree.Comparison → Option Rows → Option Rows
+if_rows room rows c more = if nat_le (length rows + row_count c) room then more else None
 
--- the rows behind these, with those of a compare
-unfoldable pub compare_means : Rows → tree.Compare → Meaning Rows
-compare_means rows c =
-    affine_means most_brackets c.left >>= (λ a. affine_means most_brackets c.right >>= (λ b.
-    given (if_rows rows c.comparison (with_compare rows c.comparison a.numbers b.numbers))))
+-- The rows behind these, with those of a compare, where so many brackets may still be opened and there may be so many rows.
+unfoldable pub compare_means : ℕ → ℕ → Rows → tree.Compare → Meaning Rows
+compare_means brackets room rows c =
+    affine_means brackets c.left >>= (λ a. affine_means brackets c.right >>= (λ b.
+    given (if_rows room rows c.comparison (with_compare rows c.comparison a.numbers b.numbers))))
+
+-- the rows behind these, with those of compares
+unfoldable pub compares_mean : ℕ → ℕ → Rows → tree.Compares → Meaning Rows
+compares_mean brackets room rows (tree.last_compare c) = compare_means brackets room rows c
+compares_mean brackets room rows (tree.compare c cs) = compare_means brackets room rows c >>= (λ more. compares_mean brackets room more cs)
 
 -- ---- references
 
@@ -324,22 +329,26 @@ begin depth at s = Some (tt, with_kind at (kind.OpenLoop depth) s)
 unfoldable pub end : ℕ → Meaning (Unit {0})
 end at s = Some (tt, with_kind at kind.ClosedLoop s)
 
--- items behind these, where so many loops and so many brackets may still be opened
+-- Items behind these, where so many loops, so many rows of guards and so many brackets may still be opened.
 unfoldable mutual
-  pub item_means : ℕ → ℕ → Items → item.Item → Meaning Items
-  item_means more brackets items item.nothing = pure items
-  item_means more zero items (item.block is) = none
-  item_means more (suc brackets) items (item.block is) = items_means more brackets items is
-  item_means zero brackets items (item.loop h i) = none
-  item_means (suc more) zero items (item.loop h i) = none
-  item_means (suc more) (suc brackets) items (item.loop h i) =
-      header_means brackets h >>= (λ l. begin (most_loops - 1 - more) l.name >> item_means more (suc brackets) done i >>= (λ body.
+  pub item_means : ℕ → ℕ → ℕ → Items → item.Item → Meaning Items
+  item_means more room brackets items item.nothing = pure items
+  item_means more room zero items (item.block is) = none
+  item_means more room (suc brackets) items (item.block is) = items_means more room brackets items is
+  item_means zero room brackets items (item.loop h i) = none
+  item_means (suc more) room zero items (item.loop h i) = none
+  item_means (suc more) room (suc brackets) items (item.loop h i) =
+      header_means brackets h >>= (λ l. begin (most_loops - 1 - more) l.name >> item_means more room (suc brackets) done i >>= (λ body.
       end l.name >> pure (with_item items (loop l body))))
-  item_means more brackets items (item.statement a) = statement_means brackets items a
+  item_means more room zero items (item.guarded cs i) = none
+  item_means more room (suc brackets) items (item.guarded cs i) =
+      compares_mean brackets room [] cs >>= (λ rows. item_means more (room - length rows) (suc brackets) done i >>= (λ body.
+      pure (with_item items (guard rows body))))
+  item_means more room brackets items (item.statement a) = statement_means brackets items a
 
-  pub items_means : ℕ → ℕ → Items → item.Items → Meaning Items
-  items_means more brackets items item.item_end = pure items
-  items_means more brackets items (item.item i is) = item_means more brackets items i >>= (λ all. items_means more brackets all is)
+  pub items_means : ℕ → ℕ → ℕ → Items → item.Items → Meaning Items
+  items_means more room brackets items item.item_end = pure items
+  items_means more room brackets items (item.item i is) = item_means more room brackets items i >>= (λ all. items_means more room brackets all is)
 
 -- ---- texts
 
@@ -348,16 +357,11 @@ unfoldable pub parameters_mean : List (List ℕ) → Meaning (Unit {0})
 parameters_mean [] = pure tt
 parameters_mean (name ∷ names) = slot name >> parameters_mean names
 
--- the rows behind these, with those of compares
-unfoldable pub compares_mean : Rows → text.Compares → Meaning Rows
-compares_mean rows (text.last_compare c) = compare_means rows c
-compares_mean rows (text.compare c cs) = compare_means rows c >>= (λ more. compares_mean more cs)
-
 -- what lines assume, behind this
 unfoldable pub lines_mean : Head → text.Lines → Meaning Head
 lines_mean h text.line_none = pure h
 lines_mean h (text.parameters head names ls) = parameters_mean names >> lines_mean h ls
-lines_mean h (text.assumptions head cs ls) = compares_mean h.rows cs >>= (λ rows. lines_mean (record { assumed = true; rows = rows }) ls)
+lines_mean h (text.assumptions head cs ls) = compares_mean most_brackets most_rows h.rows cs >>= (λ rows. lines_mean (record { assumed = true; rows = rows }) ls)
 
 -- what is read, where something is meant
 abbrev pub reading_from : Option ((Head × Items) × Names) → Option Reading
@@ -367,7 +371,7 @@ reading_from (Some p) = Some (record { names = p.1.names; kinds = p.1.kinds; ass
 -- the lines in front of a program, then its items
 unfoldable pub whole_means : text.Text → Meaning (Head × Items)
 whole_means t =
-    lines_mean (record { assumed = false; rows = [] }) t.lines >>= (λ h. items_means most_loops most_brackets done t.items >>= (λ items. pure (h, items)))
+    lines_mean (record { assumed = false; rows = [] }) t.lines >>= (λ h. items_means most_loops most_guards most_brackets done t.items >>= (λ items. pure (h, items)))
 
 -- what a text means, where it is within the limits
 abbrev pub text_means : text.Text → Option Reading

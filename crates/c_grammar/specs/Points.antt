@@ -95,7 +95,7 @@ RowsHaveValues = (brackets : ℕ) (t : Affine) (s r : Names) (form : Form) → H
 
 -- a comparison holds at a point exactly where the rows that it means are at least 0 there
 abbrev pub RowsHoldSo : Type 0
-RowsHoldSo = (c : Compare) (s r : Names) (rows all : Rows) → HaveKinds s → compare_means rows c s ≡ Some (all, r)
+RowsHoldSo = (brackets room : ℕ) (c : Compare) (s r : Names) (rows all : Rows) → HaveKinds s → compare_means brackets room rows c s ≡ Some (all, r)
     → (more : Rows) × (all ≡ rows ++ more) × ((at : Point) (numbers : List ℤ) → AreNumbersAt r at numbers → AllByRecursion (λ row. pos 0 ≤ℤ row_value row numbers) more ↔ Holds at c)
 
 -- a loop falls where it was read so, and its values are exactly those from its first value on for which its comparison holds

@@ -1,7 +1,7 @@
 -- Which affine program a C text means: its rows of numbers are forms over the parameters and the loops around them.
 use Rattle.std.specs.Prelude.{◌≡◌, ℕ, suc, ◌+◌, List, [], ◌∷◌, ◌++◌, map, length, take, drop, ℤ, slice_index_or, Some, option_map}
 use Rattle.iolb_model.specs.Form.{AffineForm}
-use Rattle.iolb_model.specs.Program.{Access, Statement, Item, assign, loop, AffineProgram}
+use Rattle.iolb_model.specs.Program.{Access, Statement, Item, assign, loop, guard, AffineProgram}
 use Rattle.c_reading.specs.Tree as read
 use Rattle.c_reading.specs.Access.{Access as ReadAccess, Statement as ReadStatement}
 use Rattle.c_reading.specs.Tree.{Item as ReadItem, Items as ReadItems}
@@ -35,6 +35,7 @@ abbrev mutual
   pub statements_in_item : ℕ → ℕ → ReadItem → List Statement
   statements_in_item parameters depth (read.assign s) = narrowed_statement parameters depth s ∷ []
   statements_in_item parameters depth (read.loop h body) = statements_in parameters (suc depth) body
+  statements_in_item parameters depth (read.guard rows body) = statements_in parameters depth body
 
   pub statements_in : ℕ → ℕ → ReadItems → List Statement
   statements_in parameters depth read.done = []
@@ -47,6 +48,8 @@ abbrev mutual
   item_meant names parameters depth number (read.loop h body) =
       loop (slice_index_or names h.name []) (direction_of h.down) (narrowed parameters depth h.lower) (narrowed parameters depth h.upper)
       (row_from (items_meant names parameters (suc depth) number body))
+  item_meant names parameters depth number (read.guard rows body) =
+      guard (map (narrowed parameters depth) rows) (row_from (items_meant names parameters depth number body))
 
   pub items_meant : List (List ℕ) → ℕ → ℕ → ℕ → ReadItems → List Item
   items_meant names parameters depth number read.done = []

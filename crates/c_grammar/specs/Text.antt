@@ -1,19 +1,9 @@
 -- Whole texts of the grammar, and the words that they spell.
-use Rattle.std.specs.Prelude.{ℕ, List, [], ◌∷◌, ◌++◌, map, codes}
+use Rattle.std.specs.Prelude.{ℕ, List, [], ◌∷◌, ◌++◌, map}
 use Rattle.c_tokens.specs.declared.token.TokenKind.TheVariants as token
-use Rattle.c_grammar.specs.Words.{Word, a_name, a_symbol, line_end, program_end}
-use Rattle.c_grammar.specs.Affine.{Compare, compare_words}
+use Rattle.c_grammar.specs.Words.{Word, a_name, line_end, program_end}
+use Rattle.c_grammar.specs.Affine.{Compares, compares_words}
 use Rattle.c_grammar.specs.Item.{Items, items_words}
-
--- compare ('&&' compare)*
-pub data Compares : Type 0 where
-  last_compare : Compare → Compares
-  compare : Compare → Compares → Compares
-
--- their words
-abbrev pub compares_words : Compares → List Word
-compares_words (last_compare c) = compare_words c
-compares_words (compare c cs) = compare_words c ++ (a_symbol (codes "&&") ∷ compares_words cs)
 
 -- The lines in front of a program that name parameters or assume, each with the bytes of its head, which may have any
 -- blanks between its words.

@@ -7,10 +7,10 @@ use Rattle.affine_program.specs.Printable.{IsOrdered}
 use Rattle.c_reading.specs.declared.named.Kind.{Kind}
 use Rattle.c_reading.specs.declared.named.Kind.TheVariants.{Parameter, OpenLoop, ClosedLoop, Array}
 use Rattle.c_reading.specs.Access.{Access, Statement}
-use Rattle.c_reading.specs.Tree.{Item, assign, loop, Items, done, next}
+use Rattle.c_reading.specs.Tree.{Item, assign, loop, guard, Items, done, next}
 use Rattle.c_reading.specs.Names.{parameters_among, arrays_among}
 use Rattle.c_reading.specs.Text.{Reading, reading_of}
-use Rattle.iolb_model.specs.declared.limits.TheConstants.{LOOPS, PARAMETERS, STATEMENTS, ARRAYS, SUBSCRIPTS, READS, ASSUMPTIONS, NUMBER_SIZE}
+use Rattle.iolb_model.specs.declared.limits.TheConstants.{LOOPS, GUARDS, PARAMETERS, STATEMENTS, ARRAYS, SUBSCRIPTS, READS, ASSUMPTIONS, NUMBER_SIZE}
 
 -- no name stands twice
 abbrev pub AreDistinct : List (List ℕ) → Type 0
@@ -42,23 +42,28 @@ pub record IsStatementIn (r : Reading) (depth : ℕ) (statement : Statement) : T
   pub few : length statement.reads ≤ READS
   pub reads : AllByRecursion (IsAccessIn r depth) statement.reads
 
--- items inside so many loops, of which each has a name that is there and fewer loops around it than may be nested
+-- Items inside so many loops and guards of so many rows: each loop has a name that is there and fewer loops around it than
+-- may be nested, and each guard has a row, and not more of them with those around it than there may be.
 abbrev mutual
-  pub IsItemIn : Reading → ℕ → Item → Type 0
-  IsItemIn r depth (assign statement) = IsStatementIn r depth statement
-  IsItemIn r depth (loop h body) =
+  pub IsItemIn : Reading → ℕ → ℕ → Item → Type 0
+  IsItemIn r depth guards (assign statement) = IsStatementIn r depth statement
+  IsItemIn r depth guards (loop h body) =
       (h.name < length r.names) × (depth < LOOPS) × IsRowOver (length (parameters_of r)) depth h.lower × IsRowOver (length (parameters_of r)) depth h.upper
-      × AreItemsIn r (suc depth) body
+      × AreItemsIn r (suc depth) guards body
+  IsItemIn r depth guards (guard rows body) =
+      (0 < length rows) × (guards + length rows ≤ GUARDS) × AllByRecursion (IsRowOver (length (parameters_of r)) depth) rows
+      × AreItemsIn r depth (guards + length rows) body
 
-  pub AreItemsIn : Reading → ℕ → Items → Type 0
-  AreItemsIn r depth done = ⊤
-  AreItemsIn r depth (next i items) = IsItemIn r depth i × AreItemsIn r depth items
+  pub AreItemsIn : Reading → ℕ → ℕ → Items → Type 0
+  AreItemsIn r depth guards done = ⊤
+  AreItemsIn r depth guards (next i items) = IsItemIn r depth guards i × AreItemsIn r depth guards items
 
 -- how many statements there are
 abbrev mutual
   pub item_count : Item → ℕ
   item_count (assign statement) = 1
   item_count (loop h body) = statement_count body
+  item_count (guard rows body) = statement_count body
 
   pub statement_count : Items → ℕ
   statement_count done = 0
@@ -76,6 +81,7 @@ abbrev mutual
   pub item_numbers : Item → List ℕ
   item_numbers (assign s) = s.writes.array ∷ numbers_of s.reads
   item_numbers (loop h body) = items_numbers body
+  item_numbers (guard rows body) = items_numbers body
 
   pub items_numbers : Items → List ℕ
   items_numbers done = []
@@ -100,6 +106,7 @@ abbrev mutual
   IsNested kinds around (assign s) = ⊤
   IsNested kinds around (loop h body) =
       IsLoopAt kinds h.name × AllByRecursion (λ n. n ≡ h.name → ⊥) around × AreNested kinds (h.name ∷ around) body
+  IsNested kinds around (guard rows body) = AreNested kinds around body
 
   pub AreNested : List Kind → List ℕ → Items → Type 0
   AreNested kinds around done = ⊤
@@ -116,7 +123,7 @@ pub record IsWellRead (r : Reading) : Type 0 where
   pub few_arrays : length (arrays_of r) ≤ ARRAYS
   pub ranks : AllByRecursion (λ (array : List ℕ × ℕ). array.1 ≤ SUBSCRIPTS) (arrays_of r)
   pub statements : statement_count r.items ≤ STATEMENTS
-  pub items : AreItemsIn r 0 r.items
+  pub items : AreItemsIn r 0 0 r.items
   pub names : AllByRecursion IsName r.names
   pub distinct : AreDistinct r.names
   pub nested : AreNested r.kinds [] r.items

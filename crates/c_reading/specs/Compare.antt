@@ -1,9 +1,9 @@
 -- Comparisons of affine expressions, and the rows that they mean: forms that are at least 0.
-use Rattle.std.specs.Prelude.{ℕ, ◌+◌, nat_le, if◌then◌else◌, ℤ, pos, negsuc, List, [], ◌∷◌, ◌++◌, length, Option, Some, None, Result, Ok, Err, codes}
+use Rattle.std.specs.Prelude.{ℕ, zero, suc, ◌+◌, nat_le, if◌then◌else◌, ℤ, pos, negsuc, List, [], ◌∷◌, ◌++◌, length, Option, Some, None, Result, Ok, Err, codes}
 use Rattle.c_reading.specs.declared.error.ReadFault.{ReadFault}
 use Rattle.c_reading.specs.declared.compare.Comparison.{Comparison}
 use Rattle.c_reading.specs.declared.compare.Comparison.TheVariants.{AtLeast, Above, AtMost, Below, Equal}
-use Rattle.c_reading.specs.Input.{Input, Rule, ◌>>=◌, ◌>>◌, pure, given, fault_at, pass, sees, place}
+use Rattle.c_reading.specs.Input.{Input, Rule, ◌>>=◌, ◌>>◌, pure, given, fault_at, pass, refuse, sees, place, next, left}
 use Rattle.c_reading.specs.Numbers.{combined}
 use Rattle.c_reading.specs.Affine.{Affine, affine, refusal_after}
 use Rattle.iolb_model.specs.declared.limits.TheConstants.{ASSUMPTIONS, BRACKETS}
@@ -54,24 +54,34 @@ with_compare start rows AtMost a b = with_row start rows (pos 0) b a
 with_compare start rows Below a b = with_row start rows (pos 1) b a
 with_compare start rows Equal a b = with_both start a b (with_row start rows (pos 0) a b)
 
--- the comparison that has to follow the expression, where its rows aren't too many
-unfoldable pub comparison_by : ℕ → ℕ → Affine → Option Comparison → Rule Comparison
-comparison_by start count a None i = Err (refusal_after a i)
-comparison_by start count a (Some c) i = if nat_le (count + row_count c) most_rows then Ok (c, i) else fault_at 10 start i
+-- the comparison that has to follow the expression, where its rows aren't more than there may be
+unfoldable pub comparison_by : ℕ → ℕ → ℕ → Affine → Option Comparison → Rule Comparison
+comparison_by room start count a None i = Err (refusal_after a i)
+comparison_by room start count a (Some c) i = if nat_le (count + row_count c) room then Ok (c, i) else fault_at 10 start i
 
 -- what a compare adds: the rows with its own, and the expression that it ends with
 pub record Compared : Type 0 where
   pub rows : Rows
   pub last : Affine
 
-unfoldable pub compare_from : ℕ → Rows → Rule Compared
-compare_from start rows = do
-  a ← affine most_brackets None
-  c ← λ i. comparison_by start (length rows) a (comparison i) i
+-- where so many brackets may still be opened, and there may be so many rows
+unfoldable pub compare_from : ℕ → ℕ → ℕ → Rows → Rule Compared
+compare_from brackets room start rows = do
+  a ← affine brackets None
+  c ← λ i. comparison_by room start (length rows) a (comparison i) i
   pass
-  b ← affine most_brackets None
+  b ← affine brackets None
   all ← given (with_compare start rows c a.numbers b.numbers)
   pure (record { rows = all; last = b })
 
-unfoldable pub compare : Rows → Rule Compared
-compare rows i = compare_from (place i) rows i
+unfoldable pub compare : ℕ → ℕ → Rows → Rule Compared
+compare brackets room rows i = compare_from brackets room (place i) rows i
+
+-- compares with `&&` between them. The number bounds the turns, and each turn takes a token.
+unfoldable pub compares : ℕ → ℕ → ℕ → Rows → Rule Compared
+compares brackets room zero rows i = refuse i
+compares brackets room (suc turns) rows i = (compare brackets room rows >>= (λ c j.
+    if sees (codes "&&") j then compares brackets room turns c.rows (next j) else Ok (c, j))) i
+
+unfoldable pub all_compares : ℕ → ℕ → Rows → Rule Compared
+all_compares brackets room rows i = compares brackets room (left i) rows i

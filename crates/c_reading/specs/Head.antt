@@ -1,10 +1,10 @@
 -- The directives before a program: lines that name parameters, and lines that assume.
-use Rattle.std.specs.Prelude.{ℕ, zero, suc, Bool, true, false, if◌then◌else◌, [], Ok, Err, codes}
+use Rattle.std.specs.Prelude.{ℕ, zero, suc, Bool, true, false, if◌then◌else◌, [], Ok, Err}
 use Rattle.c_tokens.specs.declared.token.TokenKind.{TokenKind}
 use Rattle.c_tokens.specs.declared.token.TokenKind.TheVariants as token
-use Rattle.c_reading.specs.Input.{Rule, ◌>>=◌, pass, refuse, sees, kind, left, is_name_kind, next}
+use Rattle.c_reading.specs.Input.{Rule, ◌>>=◌, pass, refuse, kind, left, is_name_kind, next}
 use Rattle.c_reading.specs.Affine.{refusal_after, slot}
-use Rattle.c_reading.specs.Compare.{Rows, Compared, compare}
+use Rattle.c_reading.specs.Compare.{Rows, Compared, most_brackets, most_rows, all_compares}
 
 abbrev pub is_line_end : TokenKind → Bool
 is_line_end token.LineEnd = true
@@ -28,18 +28,13 @@ parameter_names (suc turns) i =
 unfoldable pub all_parameter_names : Rule (Unit {0})
 all_parameter_names i = parameter_names (left i) i
 
--- the line has to end behind a compare
+-- the line has to end behind its compares
 unfoldable pub closed_line : Compared → Rule Rows
 closed_line c i = if is_line_end (kind i) then Ok (c.rows, next i) else Err (refusal_after c.last i)
 
--- compares up to the line's end, with `&&` between them
-unfoldable pub compares : ℕ → Rows → Rule Rows
-compares zero rows i = refuse i
-compares (suc turns) rows i = (compare rows >>= (λ c j.
-    if sees (codes "&&") j then compares turns c.rows (next j) else closed_line c j)) i
-
-unfoldable pub all_compares : Rows → Rule Rows
-all_compares rows i = compares (left i) rows i
+-- a line's compares, whose rows come behind these
+unfoldable pub line_compares : Rows → Rule Rows
+line_compares rows = all_compares most_brackets most_rows rows >>= closed_line
 
 -- the rows that are assumed, and whether a line assumes
 pub record Head : Type 0 where
@@ -50,7 +45,7 @@ unfoldable pub directives : ℕ → Head → Rule Head
 directives zero h i = refuse i
 directives (suc turns) h i =
     if is_parameters (kind i) then (all_parameter_names >>= (λ _. directives turns h)) (next i)
-    else (if is_assumptions (kind i) then (all_compares h.rows >>= (λ rows. directives turns (record { assumed = true; rows = rows }))) (next i)
+    else (if is_assumptions (kind i) then (line_compares h.rows >>= (λ rows. directives turns (record { assumed = true; rows = rows }))) (next i)
     else Ok (h, i))
 
 -- the directives in front of a text

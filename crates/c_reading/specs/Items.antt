@@ -1,4 +1,4 @@
--- Items: statements, loops and blocks.
+-- Items: statements, loops, guards and blocks.
 use Rattle.std.specs.Prelude.{ℕ, zero, suc, ◌+◌, ◌-◌, ◌||◌, nat_le, Bool, true, false, not, if◌then◌else◌, ℤ, pos, negsuc, List, [], ◌∷◌, length, Option, Some, None, Result, Ok, Err, codes}
 use Rattle.c_tokens.specs.declared.token.TokenKind.{TokenKind}
 use Rattle.c_tokens.specs.declared.token.TokenKind.TheVariants as token
@@ -12,10 +12,11 @@ use Rattle.c_reading.specs.Tree.{Items, done, with_item}
 use Rattle.c_reading.specs.Tree as tree
 use Rattle.c_reading.specs.Input.{Input, Rule, ◌>>=◌, ◌>>◌, pure, given, fault, fault_at, pass, refuse, sees, spelling, place, next, left, is_name_kind}
 use Rattle.c_reading.specs.Input as input
-use Rattle.c_reading.specs.Numbers.{most_loops, combined, zeros}
+use Rattle.c_reading.specs.Numbers.{most_loops, most_guards, combined, zeros}
 use Rattle.c_reading.specs.Affine.{affine, closed_by, number_of, kind_of, with_name, is_short}
 use Rattle.c_reading.specs.Refs.{access, with_kind}
-use Rattle.c_reading.specs.Values.{Accesses, expect, open_bracket, value}
+use Rattle.c_reading.specs.Values.{Accesses, expect, value}
+use Rattle.c_reading.specs.Guards.{bracket_behind, conditions, no_else}
 use Rattle.iolb_model.specs.declared.limits.TheConstants.{STATEMENTS}
 
 -- how many statements there may be
@@ -190,14 +191,10 @@ header_of brackets name = do
   expect (codes ")")
   pure h
 
--- `for`, and the bracket behind it
-unfoldable pub for_bracket : ℕ → Rule (Unit {0})
-for_bracket brackets i = if sees (codes "(") (next i) then open_bracket brackets (next i) else refuse (next i)
-
 unfoldable pub header : ℕ → Rule Header
-header brackets = for_bracket brackets >> (λ i. header_of (brackets - 1) (spelling (skip_int i)) (skip_int i))
+header brackets = bracket_behind brackets >> (λ i. header_of (brackets - 1) (spelling (skip_int i)) (skip_int i))
 
--- ---- loops and blocks
+-- ---- loops, guards and blocks
 
 -- the loop of this name begins at this depth, and ends
 unfoldable pub opened : ℕ → ℕ → Rule (Unit {0})
@@ -215,6 +212,15 @@ for_loop item depth brackets items = do
   closed h.name
   pure (with_item items (tree.loop h body))
 
+-- A guard over such an item, behind these items, where there may be so many rows. The item is told how many rows the guard
+-- has beside the first.
+unfoldable pub guard : (ℕ → ℕ → Items → Rule Items) → ℕ → ℕ → Items → Rule Items
+guard item room brackets items = do
+  rows ← conditions brackets room
+  body ← item (length rows - 1) brackets done
+  no_else
+  pure (with_item items (tree.guard rows body))
+
 -- items up to the bracket that closes the block. The number bounds the turns, and each turn takes a token.
 unfoldable pub block_items : (Items → Rule Items) → ℕ → Items → Rule Items
 block_items item zero items i = refuse i
@@ -224,32 +230,46 @@ block_items item (suc turns) items i =
 unfoldable pub all_block_items : (Items → Rule Items) → Items → Rule Items
 all_block_items item items i = block_items item (left i) items i
 
--- an item, over what a block and a loop are, behind these items
-unfoldable pub item_by : (Items → Rule Items) → (Items → Rule Items) → ℕ → Items → Rule Items
-item_by block loop brackets items i =
+-- an item, over what a block, a loop and a guard are, behind these items
+unfoldable pub item_by : (Items → Rule Items) → (Items → Rule Items) → (Items → Rule Items) → ℕ → Items → Rule Items
+item_by block loop guard brackets items i =
     if sees (codes ";") i then Ok (items, next i)
     else (if sees (codes "{") i then block items i
     else (if sees (codes "for") i then loop items i
-    else (if sees (codes "if") i then fault 12 i
+    else (if sees (codes "if") i then guard items i
     else (if is_name_kind (input.kind i) then statement brackets items i
     else refuse i))))
 
--- a block, over what a loop is, where so many brackets may still be opened
-unfoldable pub block : (ℕ → Items → Rule Items) → ℕ → Items → Rule Items
-block loop zero items i = fault 9 i
-block loop (suc brackets) items i = all_block_items (item_by (block loop brackets) (loop brackets) brackets) items (next i)
+-- a block, over what a loop and a guard are, where so many brackets may still be opened
+unfoldable pub block : (ℕ → Items → Rule Items) → (ℕ → Items → Rule Items) → ℕ → Items → Rule Items
+block loop guard zero items i = fault 9 i
+block loop guard (suc brackets) items i =
+    all_block_items (item_by (block loop guard brackets) (loop brackets) (guard brackets) brackets) items (next i)
 
-unfoldable pub item_over : (ℕ → Items → Rule Items) → ℕ → Items → Rule Items
-item_over loop brackets = item_by (block loop brackets) (loop brackets) brackets
+unfoldable pub item_over : (ℕ → Items → Rule Items) → (ℕ → Items → Rule Items) → ℕ → Items → Rule Items
+item_over loop guard brackets = item_by (block loop guard brackets) (loop brackets) (guard brackets) brackets
 
--- a loop, where so many loops and brackets may still be opened
-unfoldable pub loops : ℕ → ℕ → Items → Rule Items
-loops zero brackets items i = fault 9 i
-loops (suc more) brackets items i = for_loop (item_over (loops more) brackets) (most_loops - 1 - more) brackets items i
+-- An item over what a loop is, where there may be so many rows of guards less these. By recursion on the rows that there may
+-- be: a guard's first row leaves one fewer, and its others are left out there.
+unfoldable pub item_behind : (ℕ → ℕ → Items → Rule Items) → ℕ → ℕ → ℕ → Items → Rule Items
+item_behind loop zero taken = item_over (loop 0) (guard (λ rows brackets items. refuse) 0)
+item_behind loop (suc room) zero = item_over (loop (suc room)) (guard (item_behind loop room) (suc room))
+item_behind loop (suc room) (suc taken) = item_behind loop room taken
 
--- an item, where so many loops and brackets may still be opened
-unfoldable pub item : ℕ → ℕ → Items → Rule Items
-item more brackets = item_over (loops more) brackets
+-- a guard over what a loop is, where there may be so many rows; without room for one its first compare is a fault
+unfoldable pub guards : (ℕ → ℕ → Items → Rule Items) → ℕ → ℕ → Items → Rule Items
+guards loop zero = guard (λ rows brackets items. refuse) 0
+guards loop (suc room) = guard (item_behind loop room) (suc room)
+
+-- a loop, where so many loops, rows of guards and brackets may still be opened
+unfoldable pub loops : ℕ → ℕ → ℕ → Items → Rule Items
+loops zero room brackets items i = fault 9 i
+loops (suc more) room brackets items i =
+    for_loop (item_behind (loops more) room 0 brackets) (most_loops - 1 - more) brackets items i
+
+-- an item, where so many loops, rows of guards and brackets may still be opened
+unfoldable pub item : ℕ → ℕ → ℕ → Items → Rule Items
+item more room = item_behind (loops more) room 0
 
 abbrev pub is_end : TokenKind → Bool
 is_end token.End = true
@@ -258,7 +278,7 @@ is_end _ = false
 -- items up to the closing line
 unfoldable pub items : ℕ → Items → Rule Items
 items zero all i = refuse i
-items (suc turns) all i = if is_end (input.kind i) then Ok (all, i) else (item most_loops 64 all >>= items turns) i
+items (suc turns) all i = if is_end (input.kind i) then Ok (all, i) else (item most_loops most_guards 64 all >>= items turns) i
 
 unfoldable pub all_items : Rule Items
 all_items i = items (left i) done i

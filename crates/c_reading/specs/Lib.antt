@@ -8,6 +8,7 @@ pub mod Compare
 pub mod Head
 pub mod Refs
 pub mod Values
+pub mod Guards
 pub mod Items
 pub mod Text
 pub mod Names

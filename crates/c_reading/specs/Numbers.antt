@@ -3,14 +3,17 @@
 use Rattle.std.specs.Prelude.{◌≡◌, ◌++◌, ℕ, ◌+◌, ◌*◌, ◌-◌, ◌==◌, ◌&&◌, nat_lt, Bool, true, false, not, if◌then◌else◌, ℤ, pos, ◌+ℤ◌, ◌-ℤ◌, ◌*ℤ◌, unsigned_abs, List, [], ◌∷◌, replicate, slice_set, min, Option, Some, None, option_map}
 use Rattle.std.specs.List.{list_all}
 use Rattle.c_tokens.specs.Bytes.{is_digit}
-use Rattle.iolb_model.specs.declared.limits.TheConstants.{LOOPS, PARAMETERS, NUMBER_SIZE}
+use Rattle.iolb_model.specs.declared.limits.TheConstants.{LOOPS, GUARDS, PARAMETERS, NUMBER_SIZE}
 
--- how many parameters and how many loops around a statement there may be
+-- how many parameters there may be, and how many loops and how many rows of guards around a statement
 abbrev pub most_parameters : ℕ
 most_parameters = PARAMETERS
 
 abbrev pub most_loops : ℕ
 most_loops = LOOPS
+
+abbrev pub most_guards : ℕ
+most_guards = GUARDS
 
 abbrev pub width : ℕ
 width = 1 + PARAMETERS + LOOPS

@@ -1,16 +1,17 @@
 -- Items, as they were read.
-use Rattle.std.specs.Prelude.{List, [], ◌∷◌, map}
+use Rattle.std.specs.Prelude.{List, [], ◌∷◌, map, ℤ}
 use Rattle.c_reading.specs.Access.{Statement}
 use Rattle.c_reading.specs.declared.tree.Header.{Header}
 use Rattle.c_reading.specs.declared.tree.Item.{Item as CodeItem}
-use Rattle.c_reading.specs.declared.tree.Item.TheOpen.{Item-F, Loop, Assign}
+use Rattle.c_reading.specs.declared.tree.Item.TheOpen.{Item-F, Loop, Guard, Assign}
 use Rattle.c_reading.specs.declared.tree.Item.TheFolds.{fold-Item}
 
--- an item: a statement, or a loop over a row of items
+-- an item: a statement, a loop over a row of items, or a guard of so many rows over one
 mutual
   pub data Item : Type 0 where
     assign : Statement → Item
     loop : Header → Items → Item
+    guard : List (List ℤ) → Items → Item
 
   pub data Items : Type 0 where
     done : Items
@@ -31,6 +32,7 @@ items_from (i ∷ items) = next i (items_from items)
 -- one item, with each inner item in its place
 abbrev pub item_step : Item-F Item → Item
 item_step (Loop header body) = loop header (items_from body.items)
+item_step (Guard rows body) = guard rows.items (items_from body.items)
 item_step (Assign statement) = assign statement
 
 -- the code's item

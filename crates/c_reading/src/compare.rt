@@ -1,6 +1,6 @@
 //! Comparisons of affine expressions.
 
-ghost use Rattle.std.specs.Prelude.{◌≡◌, ◌≤◌};
+ghost use Rattle.std.specs.Prelude.{◌≡◌, ◌+◌, ◌<◌, ◌≤◌, length, IfOk};
 ghost use Rattle.c_reading.specs.Input.{Reads, Gives};
 ghost use Rattle.c_reading.specs.Compare as spec;
 
@@ -10,7 +10,7 @@ use crate::error::{ReadError, ReadFault};
 use crate::input::Reader;
 use crate::numbers::combined;
 use crate::rows::Rows;
-use iolb_model::limits::{ASSUMPTIONS, BRACKETS};
+use iolb_model::limits::BRACKETS;
 use std::alloc::Global;
 use std::marker::Model;
 
@@ -53,7 +53,8 @@ impl Rows {
         a: &[i32],
         b: &[i32],
     ) -> Result<Rows, ReadError>
-        ensures { Gives (spec.with_row start self less a.now b.now) result }
+        ensures row { Gives (spec.with_row start self less a.now b.now) result }
+        ensures more { IfOk result (λ rows. length rows ≡ length self + 1) }
     {
         let Some(row) = combined(alloc, -1, less, a, b)? else {
             return Err(ReadError::Fault(ReadFault {
@@ -75,7 +76,8 @@ impl Rows {
         a: &[i32],
         b: &[i32],
     ) -> Result<Rows, ReadError>
-        ensures { Gives (spec.with_compare start self comparison a.now b.now) result }
+        ensures rows { Gives (spec.with_compare start self comparison a.now b.now) result }
+        ensures more { IfOk result (λ rows. length rows ≡ length self + spec.row_count comparison) }
     {
         match comparison {
             Comparison::AtLeast => self.with_row(alloc, start, 0, a, b),
@@ -93,7 +95,7 @@ impl Rows {
 /// How many rows a comparison means.
 fn row_count(comparison: Comparison) -> usize
     ensures value { result ≡ spec.row_count comparison }
-    ensures few { result ≤ 2 }
+    ensures some { 1 ≤ result }
 {
     match comparison {
         Comparison::Equal => 2,
@@ -122,20 +124,22 @@ impl<'a> Reader<'a> {
         }
     }
 
-    /// The comparison that has to follow the expression, where its rows aren't too many beside so many.
+    /// The comparison that has to follow the expression, where its rows beside so many aren't more than there may be.
     #[tactic(auto, unfolding(crate::specs::Compare::comparison_by))]
     fn comparison_after(
         &self,
+        room: usize,
         start: usize,
         count: usize,
         a: &Affine,
     ) -> Result<Comparison, ReadError>
-        ensures { Reads (spec.comparison_by start count a.now (spec.comparison self.now) self.now) result self.now }
+        ensures rule { Reads (spec.comparison_by room start count a.now (spec.comparison self.now) self.now) result self.now }
+        ensures few { IfOk result (λ c. count + spec.row_count c ≤ room) }
     {
         let Some(comparison) = self.comparison() else {
             return Err(ReadError::Fault(self.refusal_after(a)));
         };
-        if count.saturating_add(row_count(comparison)) > ASSUMPTIONS {
+        if row_count(comparison) > room.saturating_sub(count) {
             return Err(ReadError::Fault(ReadFault {
                 number: 10,
                 place: start,
@@ -144,17 +148,37 @@ impl<'a> Reader<'a> {
         Ok(comparison)
     }
 
-    /// A compare, whose rows come behind these.
+    /// A compare, whose rows come behind these, where so many brackets may still be opened and there may be so many rows.
     #[tactic(auto, unfolding(crate::specs::Compare::compare, crate::specs::Compare::compare_from))]
-    pub fn compare(&mut self, rows: Rows) -> Result<Compared, ReadError>
-        ensures { Reads (spec.compare rows self.old) result self.new }
+    fn compare(&mut self, brackets: u8, room: usize, rows: Rows) -> Result<Compared, ReadError>
+        ensures rule { Reads (spec.compare brackets room rows self.old) result self.new }
+        ensures more { IfOk result (λ c. length rows < length c.rows) }
+        ensures few { IfOk result (λ c. length c.rows ≤ room) }
     {
         let start = self.place();
-        let a = self.affine(MOST_BRACKETS, None)?;
-        let comparison = self.comparison_after(start, rows.len(), &a)?;
+        let a = self.affine(brackets, None)?;
+        let comparison = self.comparison_after(room, start, rows.len(), &a)?;
         self.pass();
-        let last = self.affine(MOST_BRACKETS, None)?;
+        let last = self.affine(brackets, None)?;
         let rows = rows.with_compare(self.alloc(), start, comparison, a.numbers(), last.numbers())?;
         Ok(Compared { rows, last })
+    }
+
+    /// Compares with `&&` between them, whose rows come behind these.
+    #[tactic(auto, using(crate::proofs::Turns::turns), unfolding(crate::specs::Compare::compares, crate::specs::Compare::all_compares))]
+    pub fn compares(&mut self, brackets: u8, room: usize, rows: Rows) -> Result<Compared, ReadError>
+        ensures rule { Reads (spec.all_compares brackets room rows self.old) result self.new }
+        ensures more { IfOk result (λ c. length rows < length c.rows) }
+        ensures few { IfOk result (λ c. length c.rows ≤ room) }
+    {
+        let mut rows = rows;
+        for _turn in 0..self.left() {
+            let compared = self.compare(brackets, room, rows)?;
+            if !self.takes(b"&&") {
+                return Ok(compared);
+            }
+            rows = compared.rows;
+        }
+        Err(ReadError::Fault(self.refusal()))
     }
 }

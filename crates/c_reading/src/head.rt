@@ -4,11 +4,12 @@ ghost use Rattle.std.specs.Prelude.{◌≡◌};
 ghost use Rattle.c_reading.specs.Input.{Reads, is_name_kind};
 ghost use Rattle.c_reading.specs.Head as spec;
 
-use crate::compare::Compared;
+use crate::compare::{Compared, MOST_BRACKETS};
 use crate::error::ReadError;
 use crate::input::Reader;
 use crate::rows::Rows;
 use c_tokens::TokenKind;
+use iolb_model::limits::ASSUMPTIONS;
 use std::marker::Model;
 
 /// What the directives say: the rows that are assumed, and whether a line assumes.
@@ -69,7 +70,7 @@ impl<'a> Reader<'a> {
         Err(ReadError::Fault(self.refusal()))
     }
 
-    /// The rows, where the line ends behind a compare.
+    /// The rows, where the line ends behind its compares.
     #[tactic(auto, unfolding(crate::specs::Head::closed_line))]
     fn closed_line(&mut self, compared: Compared) -> Result<Rows, ReadError>
         ensures { Reads (spec.closed_line compared self.old) result self.new }
@@ -81,20 +82,13 @@ impl<'a> Reader<'a> {
         Ok(compared.rows)
     }
 
-    /// Compares up to the line's end, with `&&` between them.
-    #[tactic(auto, using(crate::proofs::Turns::turns), unfolding(crate::specs::Head::compares, crate::specs::Head::all_compares))]
-    fn compares(&mut self, rows: Rows) -> Result<Rows, ReadError>
-        ensures { Reads (spec.all_compares rows self.old) result self.new }
+    /// A line's compares, whose rows come behind these.
+    #[tactic(auto, unfolding(crate::specs::Head::line_compares))]
+    fn line_compares(&mut self, rows: Rows) -> Result<Rows, ReadError>
+        ensures { Reads (spec.line_compares rows self.old) result self.new }
     {
-        let mut rows = rows;
-        for _turn in 0..self.left() {
-            let compared = self.compare(rows)?;
-            if !self.takes(b"&&") {
-                return self.closed_line(compared);
-            }
-            rows = compared.rows;
-        }
-        Err(ReadError::Fault(self.refusal()))
+        let compared = self.compares(MOST_BRACKETS, ASSUMPTIONS, rows)?;
+        self.closed_line(compared)
     }
 
     /// The directives in front.
@@ -110,7 +104,7 @@ impl<'a> Reader<'a> {
                 self.parameter_names()?;
             } else if is_assumptions(self.kind()) {
                 self.pass();
-                rows = self.compares(rows)?;
+                rows = self.line_compares(rows)?;
                 assumed = true;
             } else {
                 return Ok(Head { assumed, rows });

@@ -1,6 +1,6 @@
 //! The headers of loops.
 
-ghost use Rattle.std.specs.Prelude.{◌≡◌, ◌≤◌, OnOk, codes};
+ghost use Rattle.std.specs.Prelude.{◌≡◌, codes};
 ghost use Rattle.c_reading.specs.Input.{Reads, Gives, and_then};
 ghost use Rattle.c_reading.specs.Affine.{number_of};
 ghost use Rattle.c_reading.specs.Items as spec;
@@ -278,19 +278,6 @@ impl<'a> Reader<'a> {
         let header = self.header_from(brackets, name, at, first)?;
         self.expect(b")")?;
         Ok(header)
-    }
-
-    /// `for`, and the bracket behind it.
-    #[tactic(auto, unfolding(crate::specs::Items::for_bracket, crate::specs::Values::open_bracket))]
-    pub fn for_bracket(&mut self, brackets: u8) -> Result<(), ReadError>
-        ensures bracket { Reads (spec.for_bracket brackets self.old) result self.new }
-        ensures opened { OnOk result (1 ≤ brackets) }
-    {
-        self.pass();
-        if !self.sees(b"(") {
-            return Err(ReadError::Fault(self.refusal()));
-        }
-        self.open_bracket(brackets)
     }
 
     /// Passes the word `int`, where it stands there.

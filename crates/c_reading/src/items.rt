@@ -1,4 +1,4 @@
-//! Items: statements, loops and blocks.
+//! Items: statements, loops, guards and blocks.
 
 ghost use Rattle.std.specs.Prelude.{◌≡◌, ◌≤◌, IfOk, IfErr};
 ghost use Rattle.c_reading.specs.Input.{Reads};
@@ -13,7 +13,7 @@ use crate::named::Kind;
 use crate::tree::{Header, Items};
 use crate::values::Accesses;
 use c_tokens::TokenKind;
-use iolb_model::limits::{LOOPS, STATEMENTS};
+use iolb_model::limits::{GUARDS, LOOPS, STATEMENTS};
 
 /// How many loops there may be around a statement.
 const MOST_LOOPS: u8 = LOOPS as u8;
@@ -108,17 +108,23 @@ impl<'a> Reader<'a> {
     fn header(&mut self, brackets: u8) -> Result<Header, ReadError>
         ensures { Reads (spec.header brackets self.old) result self.new }
     {
-        self.for_bracket(brackets)?;
+        self.bracket_behind(brackets)?;
         self.skip_int();
         self.header_of(brackets - 1, self.spelling())
     }
 
-    /// A loop, where so many loops and brackets may still be opened.
+    /// A loop, where so many loops, rows of guards and brackets may still be opened.
     #[cycle(item)]
     #[tactic(auto, using(crate::proofs::Turns::loops_none, crate::proofs::Turns::loops_some), unfolding(crate::specs::Items::loops))]
-    fn for_loop(&mut self, loops: u8, brackets: u8, items: Items) -> Result<Items, ReadError>
+    fn for_loop(
+        &mut self,
+        loops: u8,
+        room: usize,
+        brackets: u8,
+        items: Items,
+    ) -> Result<Items, ReadError>
         requires { loops ≤ LOOPS }
-        ensures { Reads (spec.loops loops brackets items self.old) result self.new }
+        ensures { Reads (spec.loops loops room brackets items self.old) result self.new }
     {
         if loops == 0 {
             return Err(self.fault(9));
@@ -127,62 +133,102 @@ impl<'a> Reader<'a> {
         let at = header.name;
         let inner = loops - 1;
         self.set_kind(at, Kind::OpenLoop(MOST_LOOPS - 1 - inner));
-        let body = self.item(inner, brackets, Items::new(self.alloc()))?;
+        let body = self.item(inner, room, brackets, Items::new(self.alloc()))?;
         self.set_kind(at, Kind::ClosedLoop);
         let mut items = items;
         items.push_loop(header, body)?;
         Ok(items)
     }
 
+    /// A guard, where so many loops, rows of guards and brackets may still be opened.
+    #[cycle(item)]
+    #[tactic(auto, using(crate::proofs::Turns::guards_refused, crate::proofs::Turns::guards_read))]
+    fn guard(
+        &mut self,
+        loops: u8,
+        room: usize,
+        brackets: u8,
+        items: Items,
+    ) -> Result<Items, ReadError>
+        requires { loops ≤ LOOPS }
+        ensures { Reads (spec.guards (spec.loops loops) room brackets items self.old) result self.new }
+    {
+        let rows = self.conditions(brackets, room)?;
+        let inner = room - rows.len();
+        let body = self.item(loops, inner, brackets, Items::new(self.alloc()))?;
+        self.no_else()?;
+        let mut items = items;
+        items.push_guard(rows, body)?;
+        Ok(items)
+    }
+
     /// Items up to the bracket that closes their block, behind the one that opens it.
     #[cycle(item)]
     #[tactic(auto, using(crate::proofs::Turns::turns), unfolding(crate::specs::Items::block_items, crate::specs::Items::all_block_items))]
-    fn block_items(&mut self, loops: u8, brackets: u8, items: Items) -> Result<Items, ReadError>
+    fn block_items(
+        &mut self,
+        loops: u8,
+        room: usize,
+        brackets: u8,
+        items: Items,
+    ) -> Result<Items, ReadError>
         requires { loops ≤ LOOPS }
-        ensures { Reads (spec.all_block_items (spec.item loops brackets) items self.old) result self.new }
+        ensures { Reads (spec.all_block_items (spec.item loops room brackets) items self.old) result self.new }
     {
         let mut items = items;
         for _turn in 0..self.left() {
             if self.takes(b"}") {
                 return Ok(items);
             }
-            items = self.item(loops, brackets, items)?;
+            items = self.item(loops, room, brackets, items)?;
         }
         Err(ReadError::Fault(self.refusal()))
     }
 
-    /// A block, where so many loops and brackets may still be opened.
+    /// A block, where so many loops, rows of guards and brackets may still be opened.
     #[cycle(item)]
-    #[tactic(auto, using(crate::proofs::Turns::block_none, crate::proofs::Turns::block_some), unfolding(crate::specs::Items::block, crate::specs::Items::item, crate::specs::Items::item_over))]
-    fn block(&mut self, loops: u8, brackets: u8, items: Items) -> Result<Items, ReadError>
+    #[tactic(auto, using(crate::proofs::Turns::block_none, crate::proofs::Turns::block_some), unfolding(crate::specs::Items::block))]
+    fn block(
+        &mut self,
+        loops: u8,
+        room: usize,
+        brackets: u8,
+        items: Items,
+    ) -> Result<Items, ReadError>
         requires { loops ≤ LOOPS }
-        ensures { Reads (spec.block (spec.loops loops) brackets items self.old) result self.new }
+        ensures { Reads (spec.block (spec.loops loops room) (spec.guards (spec.loops loops) room) brackets items self.old) result self.new }
     {
         if brackets == 0 {
             return Err(self.fault(9));
         }
         self.pass();
-        self.block_items(loops, brackets - 1, items)
+        self.block_items(loops, room, brackets - 1, items)
     }
 
-    /// An item behind these, where so many loops and brackets may still be opened.
+    /// An item behind these, where so many loops, rows of guards and brackets may still be opened.
     #[cycle(item)]
-    #[tactic(auto, unfolding(crate::specs::Items::item, crate::specs::Items::item_over, crate::specs::Items::item_by))]
-    fn item(&mut self, loops: u8, brackets: u8, items: Items) -> Result<Items, ReadError>
+    #[tactic(auto, using(crate::proofs::Turns::item_is), unfolding(crate::specs::Items::item_over, crate::specs::Items::item_by))]
+    fn item(
+        &mut self,
+        loops: u8,
+        room: usize,
+        brackets: u8,
+        items: Items,
+    ) -> Result<Items, ReadError>
         requires { loops ≤ LOOPS }
-        ensures { Reads (spec.item loops brackets items self.old) result self.new }
+        ensures { Reads (spec.item loops room brackets items self.old) result self.new }
     {
         if self.takes(b";") {
             return Ok(items);
         }
         if self.sees(b"{") {
-            return self.block(loops, brackets, items);
+            return self.block(loops, room, brackets, items);
         }
         if self.sees(b"for") {
-            return self.for_loop(loops, brackets, items);
+            return self.for_loop(loops, room, brackets, items);
         }
         if self.sees(b"if") {
-            return Err(self.fault(12));
+            return self.guard(loops, room, brackets, items);
         }
         match self.kind() {
             TokenKind::Name => self.statement(brackets, items),
@@ -200,7 +246,7 @@ impl<'a> Reader<'a> {
             if is_end(self.kind()) {
                 return Ok(items);
             }
-            items = self.item(MOST_LOOPS, MOST_BRACKETS, items)?;
+            items = self.item(MOST_LOOPS, GUARDS, MOST_BRACKETS, items)?;
         }
         Err(ReadError::Fault(self.refusal()))
     }

@@ -6,6 +6,7 @@ mod affine;
 mod among;
 mod compare;
 mod error;
+mod guards;
 mod head;
 mod header;
 mod input;

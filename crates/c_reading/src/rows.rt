@@ -44,6 +44,13 @@ impl Rows {
         self.rows.as_slice()
     }
 
+    /// The rows.
+    pub fn into_vec(self) -> Vec<Row>
+        ensures { result.items ≡ self }
+    {
+        self.rows
+    }
+
     /// One row more.
     pub fn push(&mut self, row: Row) -> Result<(), AllocError>
         ensures { OnOk result (self.new ≡ self.old ++ row ∷ []) }

@@ -150,7 +150,7 @@ fn read_tokens(alloc: Global, bytes: &[u8], tokens: &[Token]) -> Result<Reading,
 
 /// Reads a whole C text: what it says, or the first fault that it has, with its number and its place. The lines before
 /// the opening one may name parameters and assume; between the opening and the closing line stand loops with affine
-/// bounds, which step by one, blocks, and assignments to cells with affine subscripts.
+/// bounds, which step by one, guards that ask affine comparisons, blocks, and assignments to cells with affine subscripts.
 pub fn read_text(alloc: Global, bytes: &[u8]) -> Result<Reading, ReadError>
     ensures { Gives (spec.reading_of bytes.now) result }
 {

@@ -4,6 +4,7 @@ ghost use Rattle.std.specs.Prelude.{◌≡◌, OnOk};
 ghost use Rattle.c_reading.specs.Tree as spec;
 
 use crate::access::{Row, Statement};
+use crate::rows::Rows;
 use std::alloc::{AllocError, Global};
 use std::marker::Model;
 
@@ -22,6 +23,8 @@ pub struct Header {
 pub enum Item {
     /// A loop over a row of items.
     Loop(Header, Vec<Item>),
+    /// A guard: rows, each of which is to be at least 0, and a row of items.
+    Guard(Vec<Row>, Vec<Item>),
     /// A statement.
     Assign(Statement),
 }
@@ -82,5 +85,12 @@ impl Items {
         ensures { OnOk result (self.new ≡ spec.with_item self.old (spec.loop header body)) }
     {
         self.push(Item::Loop(header, body.items))
+    }
+
+    /// One guard more.
+    pub fn push_guard(&mut self, rows: Rows, body: Items) -> Result<(), AllocError>
+        ensures { OnOk result (self.new ≡ spec.with_item self.old (spec.guard rows body)) }
+    {
+        self.push(Item::Guard(rows.into_vec(), body.items))
     }
 }

@@ -1,14 +1,15 @@
 -- What a program says of statements that aren't there.
-use Rattle.std.proofs.Common.{Bool, true, false, ◌≡◌, refl, sym, ◌∙◌, ap, subst, ℕ, ◌+◌, ◌<◌, ◌≤◌, List, [], ◌∷◌, ◌++◌, length, arith}
+use Rattle.std.proofs.Common.{Bool, true, false, ◌≡◌, refl, sym, ◌∙◌, ap, subst, ℕ, ◌+◌, ◌<◌, ◌≤◌, List, [], ◌∷◌, ◌++◌, length, map, arith}
 use Rattle.std.specs.Prelude.{Option, Some, None, IsSomeAnd, is_some, unwrap_or, ◌&&◌, nat_lt, if◌then◌else◌, flat_map}
 use Rattle.std.specs.List.{AllByRecursion, range_with_len}
 use Rattle.std.proofs.lemmas.Bool.{ltb-true}
 use Rattle.std.proofs.lemmas.List.{length-map}
-use Rattle.iolb_model.specs.Path.{PathStep, first_of, item_path, row_path}
+use Rattle.iolb_model.specs.Path.{PathStep, bounds_on, guards_on, first_of, item_path, row_path}
 use Rattle.iolb_model.specs.Program.{Direction, Row, done, next}
 use Rattle.iolb_model.specs.Order.{common_loops, item_common, row_common}
 use Rattle.execution_laws.proofs.Domains.{way-below}
-use Rattle.affine_program.specs.Domain.{depth_of}
+use Rattle.affine_form.specs.Rows.{widened}
+use Rattle.affine_program.specs.Domain.{depth_of, domain_size, guards_at}
 use Rattle.affine_program.specs.Parts.{ProgramParts, IsProgram, meaning, statement_of}
 use Rattle.dep_quast.specs.Levels.{level_count, levels, levels_between, order_count, IsWriter}
 use Rattle.certificate_fit.specs.TreeFit.{order_rows_at}
@@ -41,7 +42,13 @@ module _ (parts : ProgramParts) (is : IsProgram parts) (t : ℕ) (past : length 
 
   -- no loops are around it
   pub no-depth : depth_of (meaning parts) t ≡ 0
-  no-depth = ap (λ (o : Option (List PathStep)). length (unwrap_or o [])) no-way
+  no-depth = ap (λ (o : Option (List PathStep)). length (bounds_on (unwrap_or o []))) no-way
+
+  -- and no rows say that values are in its domain
+  pub no-size : domain_size (meaning parts) t ≡ 0
+  no-size = omega (arith, no-depth, none) where
+    none : length (guards_at (meaning parts) t) ≡ 0
+    none = ap (λ (o : Option (List PathStep)). length (map (widened (length parts.params + depth_of (meaning parts) t)) (guards_on (unwrap_or o [])))) no-way
 
   -- it comes before no statement at any level
   pub no-levels : (s : ℕ) → s < length parts.statements → level_count (meaning parts) t s ≡ 0

@@ -13,7 +13,7 @@ use Rattle.claims.specs.declared.place.Step.TheVariants.{Key, Index}
 use Rattle.claims.proofs.Laws.{AllHold-left, AllHold-right}
 use Rattle.claims.proofs.Members.{suc-moved}
 use Rattle.affine_form.specs.Rows.{variables_from}
-use Rattle.affine_program.specs.Domain.{domain_size}
+use Rattle.affine_program.specs.Domain.{depth_of}
 use Rattle.dep_quast.specs.Context.{ReadOf}
 use Rattle.dep_quast.specs.Tree.{source, input, empty, blank, SelectionTree, leaf, test}
 use Rattle.dep_quast.specs.Truth.{ReadFits}
@@ -189,7 +189,7 @@ module _ (walk : WalkSetting) where
 module _ (walk : WalkSetting) (target : SpotForms) (aim : walk.aim ≡ arrives_at target) (fit : AllHold (trees_fit walk.program walk.trees)) (rows : RowsFit walk.program 0 walk.trees) where
   shown-fits : (place : List Step) (from : SpotForms) (reach : ReachClaim) → IsSmallReach reach → AllHold (fit_in walk target from place reach) → ShownFits walk target from reach
   shown-fits place from (same equal) small h = λ e.
-      h.0 ∙ ap (λ (b : Bool). if b then domain_size walk.program from.statement else 0) (eq-eqb from.statement target.statement e)
+      h.0 ∙ ap (λ (b : Bool). if b then 2 * depth_of walk.program from.statement else 0) (eq-eqb from.statement target.statement e)
   shown-fits place from (walked start nodes) small h =
       let regions : List Claim = numbered (region_fit walk (place ++ Key (codes "nodes") ∷ [])) 0 nodes in
       let last : List Claim = shown_fit (row_count (region_at nodes from.statement)) (place ++ Key (codes "start") ∷ []) start ∷ [] in (

@@ -5,7 +5,7 @@ use Rattle.iolb_model.specs.Program.{AffineProgram, statement_at}
 use Rattle.claims.specs.declared.place.Step.{Step}
 use Rattle.claims.specs.declared.place.Step.TheVariants.{Key, Index}
 use Rattle.affine_form.specs.Multipliers.{FarkasMultipliers}
-use Rattle.affine_program.specs.Domain.{depth_of, domain_size}
+use Rattle.affine_program.specs.Domain.{depth_of}
 use Rattle.dep_quast.specs.Context.{ReadOf}
 use Rattle.reuse_paths.specs.Families.{CreditedNest}
 use Rattle.reuse_paths.specs.LeafClaims.{LeafClaim}
@@ -76,7 +76,7 @@ region_fit walk place statement region = region_fit_at walk statement (place ++ 
 
 -- how many multipliers show that two spots are the same: none where their statements differ
 abbrev pub same_count : AffineProgram → SpotForms → SpotForms → ℕ
-same_count program from to = if from.statement == to.statement then domain_size program from.statement else 0
+same_count program from to = if from.statement == to.statement then 2 * depth_of program from.statement else 0
 
 -- What shows in a setting that a walk arrives.
 abbrev pub walked_fit : WalkSetting → SpotForms → List Step → List FarkasMultipliers → List (Option WalkRegion) → List Claim

@@ -1,7 +1,7 @@
 //! Numbers that a program calls for, also of statements and reads that aren't there.
 
 ghost use Rattle.std.specs.Prelude.{◌≡◌, ◌<◌, ◌≤◌, ◌↔◌, ◌+◌, ◌*◌, IsTrue, MatchOption, length};
-ghost use Rattle.affine_program.specs.Domain.{depth_of};
+ghost use Rattle.affine_program.specs.Domain.{depth_of, domain_size};
 ghost use Rattle.affine_program.specs.Parts.{meaning};
 ghost use Rattle.certificate_fit.specs.EntryFit.{leaf_names, names_in};
 ghost use Rattle.certificate_fit.specs.TreeFit.{order_rows_at};
@@ -11,7 +11,7 @@ ghost use Rattle.dep_quast.specs.Tree.{tree_of};
 ghost use Rattle.dep_quast.specs.Truth.{ReadFits};
 ghost use Rattle.dep_quast.specs.Views.{read_of};
 ghost use Rattle.iolb_model.specs.Program.{statement_at};
-ghost use Rattle.iolb_model.specs.declared.limits.TheConstants.{LOOPS};
+ghost use Rattle.iolb_model.specs.declared.limits.TheConstants.{GUARDS, LOOPS};
 ghost use Rattle.dep_quast.specs.Quasts.{trees_of};
 
 use affine_program::Program;
@@ -35,6 +35,18 @@ pub fn loops_around(program: &Program, statement: u16) -> usize
 {
     if usize::from(statement) < program.statements().len() {
         depth(program, statement)
+    } else {
+        0
+    }
+}
+
+/// How many rows say that values are in a statement's domain: none for one that isn't there.
+pub fn domain_size(program: &Program, statement: u16) -> usize
+    ensures size { result ≡ domain_size (meaning program.now) statement }
+    ensures few { result ≤ 2 * LOOPS + GUARDS }
+{
+    if usize::from(statement) < program.statements().len() {
+        program.domain_size(statement)
     } else {
         0
     }

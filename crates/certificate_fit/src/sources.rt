@@ -8,7 +8,9 @@ ghost use Rattle.certificate_fit.specs.TreeFit.{source_fit, source_lists_fit};
 ghost use Rattle.dep_quast.specs.Truth.{ReadFits};
 ghost use Rattle.dep_quast.specs.Views.{claim_of, read_of};
 
-use crate::counts::{is_twice, levels, loops_around, order_rows, pairs_between, subscript_count};
+use crate::counts::{
+    domain_size, is_twice, levels, loops_around, order_rows, pairs_between, subscript_count,
+};
 use crate::lists::{all_forms_fit, misfit};
 use affine_program::Program;
 use claims::{ObjectKey, Place, Refused, Step};
@@ -40,7 +42,7 @@ fn lists_fit(
     if !is_twice(claimed.cell.len(), subscript_count(program, reader)) {
         return Err(misfit(alloc, place, Step::Key(ObjectKey("cell"))));
     }
-    if claimed.domain.len() != 2 * depth {
+    if claimed.domain.len() != domain_size(program, t) {
         return Err(misfit(alloc, place, Step::Key(ObjectKey("domain"))));
     }
     if usize::from(claimed.level) >= levels(program, t, s) {

@@ -3,9 +3,10 @@
 use crate::pieces::{Piece, placed, settled};
 use affine_facts::affine::{Affine, copies};
 use affine_facts::facts::{Facts, Origin, ReadFacts, StatementFacts, TreeLeaf};
+use affine_facts::fitted::fitted;
 use affine_facts::inverses::{Undoing, scaled_matrix};
 use affine_facts::leaves::with_tests;
-use affine_facts::nests::{copied_bounds, fitted, is_empty, nest_rows};
+use affine_facts::nests::{copied_bounds, is_empty, nest_rows};
 use affine_facts::placed::PlacedNest;
 use affine_facts::shown::{Rows, all_put};
 use affine_facts::words::Words;

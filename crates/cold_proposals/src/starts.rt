@@ -4,7 +4,8 @@ use crate::pieces::settled;
 use crate::turns::{Turns, all_turned};
 use affine_facts::affine::Affine;
 use affine_facts::facts::{Facts, StatementFacts, TreeLeaf};
-use affine_facts::nests::{copied_bounds, fitted, restricted};
+use affine_facts::fitted::fitted;
+use affine_facts::nests::{copied_bounds, restricted};
 use affine_facts::placed::stands_in;
 use affine_form::Memory;
 use std::alloc::Global;
@@ -37,7 +38,7 @@ fn bounds_at(
     own: &StatementFacts,
     leaf: &TreeLeaf,
 ) -> Result<Option<Vec<(Affine, Affine)>>, Memory> {
-    let (domain, tests) = (own.bounds.as_slice(), leaf.tests.as_slice());
+    let (domain, tests) = (own.nest.as_slice(), leaf.tests.as_slice());
     let Some(bounds) = restricted(alloc, facts.params, domain, tests)? else {
         return Ok(None);
     };

@@ -4,7 +4,7 @@ use crate::outlines::Outline;
 use affine_facts::facts::{Facts, Origin, ReadFacts};
 use affine_facts::leaves::{empty_entry, with_tests};
 use affine_facts::nests::{counted, nest_rows};
-use affine_facts::shown::{Rows, all_forms, all_shown, within};
+use affine_facts::shown::{Rows, all_forms, all_shown};
 use affine_form::{Memory, Multipliers};
 use affine_program::Program;
 use reuse_paths::Leaf;
@@ -49,7 +49,7 @@ fn points(
         return Ok(None);
     };
     let point = outline.point.as_slice();
-    let goals = within(alloc, facts.params, own.bounds.as_slice(), point)?;
+    let goals = own.domain(alloc, facts.params, point)?;
     let Some(inside) = all_shown(alloc, given, goals.as_slice())? else {
         return Ok(None);
     };

@@ -14,6 +14,14 @@ const FAR_ROW: &[u8] = b"#pragma scop\nfor (i = N; i < N + 2; i++) A[i] = B[i];\
 const IDLE: &[u8] =
     b"#pragma scop\nfor (i = 0; i < N; i++) for (j = i; j < i; j++) A[j] = B[j];\n#pragma endscop\n";
 
+/// The inner words of a row, which are copied.
+const INNER_ROW: &[u8] =
+    b"#pragma scop\nfor (i = 0; i < N; i++) if (i > 0 && i < N - 1) A[i] = B[i];\n#pragma endscop\n";
+
+/// Turns that a guard leaves empty.
+const GUARDED: &[u8] =
+    b"#pragma scop\nfor (i = 0; i < N; i++) if (i < 0) A[i] = B[i];\n#pragma endscop\n";
+
 /// A row whose length is assumed to be at least 5.
 const LONG_ROW: &[u8] =
     b"#pragma iolb assume N >= 0 && N >= 5\n#pragma scop\nfor (i = 0; i < N; i++) A[i] = B[i];\n#pragma endscop\n";
@@ -50,6 +58,8 @@ fn graphs_are_counted(rt: HostRuntime) -> Result<(), Fail> {
     assert_eq!(rt; counts_at(alloc, PRODUCT, 2)?, Ok((8, 12)));
     assert_eq!(rt; counts_at(alloc, FAR_ROW, (1 << 40) - 2)?, Ok((2, 2)));
     assert_eq!(rt; counts_at(alloc, LONG_ROW, 5)?, Ok((5, 5)));
+    assert_eq!(rt; counts_at(alloc, INNER_ROW, 5)?, Ok((3, 3)));
+    assert_eq!(rt; counts_at(alloc, GUARDED, 5)?, Ok((0, 0)));
     Ok(())
 }
 
@@ -60,6 +70,7 @@ fn what_is_too_much(rt: HostRuntime) -> Result<(), Fail> {
     assert_eq!(rt; counts_at(alloc, COPIED_ROW, 1 << 30)?, too_many);
     assert_eq!(rt; counts_at(alloc, FAR_ROW, (1 << 40) - 1)?, too_many);
     assert_eq!(rt; counts_at(alloc, IDLE, (1 << 24) + 1)?, too_many);
+    assert_eq!(rt; counts_at(alloc, GUARDED, (1 << 24) + 1)?, too_many);
     Ok(())
 }
 

@@ -1,5 +1,5 @@
 -- What a program says of the references of its statements, and of the loops around them.
-use Rattle.std.proofs.Common.{Bool, true, false, ◌≡◌, refl, sym, ◌∙◌, ap, subst, ℕ, zero, suc, ◌+◌, ◌*◌, ◌<◌, ◌≤◌, List, [], ◌∷◌, ◌++◌, length, map, get_or, replicate, arith}
+use Rattle.std.proofs.Common.{Bool, true, false, ◌≡◌, refl, sym, ◌∙◌, ap, subst, ℕ, zero, suc, ◌+◌, ◌*◌, ◌<◌, ◌≤◌, List, [], ◌∷◌, ◌++◌, length, map, get_or, arith}
 use Rattle.iolb_model.specs.declared.limits.TheConstants.{LOOPS}
 use Rattle.std.specs.Prelude.{Option, Some, None, IsSomeAnd, slice_get, ◌==◌, if◌then◌else◌}
 use Rattle.std.proofs.lemmas.Bool.{eqb-true}
@@ -8,7 +8,7 @@ use Rattle.std.specs.List.{AllByRecursion}
 use Rattle.std.proofs.lemmas.List.{length-map, get_or-map}
 use Rattle.base_laws.proofs.Lists.{All-append, All-at, there}
 use Rattle.iolb_model.specs.Form.{AffineForm}
-use Rattle.iolb_model.specs.Path.{PathStep, bounded, row_path}
+use Rattle.iolb_model.specs.Path.{bounds_on, row_path}
 use Rattle.iolb_model.specs.Program.{Direction, Array, AccessFits, IsOver, StatementFits, AffineProgram, IsWellFormed, statement_at, no_statement, Statement as ModelStatement}
 use Rattle.iolb_model.specs.Order.{common_loops}
 use Rattle.execution_laws.proofs.Domains.{way-there, statements-rise}
@@ -16,14 +16,14 @@ use Rattle.execution_laws.proofs.Orders.{row_common-within, row_common-turn}
 use Rattle.affine_form.specs.Form.{variables, IsSmallForm}
 use Rattle.affine_form.specs.System.{AllOver}
 use Rattle.claims.proofs.Rows.{widened-over}
-use Rattle.affine_form.specs.Rows.{IsSmallOver, IsSmallWithin, widened, equality_rows, put_in, step_of}
+use Rattle.affine_form.specs.Rows.{IsSmallOver, IsSmallWithin, widened, equality_rows, put_in}
 use Rattle.affine_form.specs.Substitution.{substitution}
 use Rattle.affine_program.specs.declared.reference.Reference.{Reference}
 use Rattle.affine_program.specs.declared.statement.Statement.{Statement}
 use Rattle.affine_program.specs.Domain.{depth_of}
 use Rattle.affine_program.specs.Limits.{IsSmallReference}
 use Rattle.affine_program.specs.Parts.{ProgramParts, IsProgram, access_of, statement_of, meaning}
-use Rattle.affine_program.proofs.Bounds.{StandsAt, row-stands, path-is, limits-at}
+use Rattle.affine_program.proofs.Bounds.{StandsAt, row-stands, bounds-are, limits-at}
 use Rattle.dep_quast.specs.Context.{ReadOf, reference_of}
 use Rattle.dep_quast.specs.Truth.{ReadFits}
 use Rattle.execution_laws.proofs.Ways.{there-holds}
@@ -53,7 +53,7 @@ ranks-same program reader t well there below arrays =
 -- two statements have at most as many loops in common as there are around either
 pub common-first : (program : AffineProgram) (t s : ℕ) → IsWellFormed program → t < length program.statements → length (common_loops program t s) ≤ depth_of program t
 common-first program t s well below =
-    there-holds (row_path program.tree t) (λ path. length (common_loops program t s) ≤ length path)
+    there-holds (row_path program.tree t) (λ path. length (common_loops program t s) ≤ length (bounds_on path))
     (row_common-within program.tree t s (statements-rise program well) (way-there program t well below))
 
 pub common-second : (program : AffineProgram) (t s : ℕ) → IsWellFormed program → s < length program.statements → length (common_loops program t s) ≤ depth_of program s
@@ -75,8 +75,7 @@ module _ (parts : ProgramParts) (is : IsProgram parts) where
   pub depth-few : (s : ℕ) → s < length parts.statements → depth_of (meaning parts) s ≤ LOOPS
   depth-few s below =
       let at = there parts.statements s below in
-      let path = path-is parts s at.0 is below at.1 in
-      omega (arith, ap (λ (p : List PathStep). length p) path, length-map at.0.bounds.items step_of, (limits-at parts s at.0 is below at.1).depth)
+      omega (arith, ap length (bounds-are parts s at.0 is below at.1), (limits-at parts s at.0 is below at.1).depth)
 
   pub common-few : (t s : ℕ) → t < length parts.statements → length (common_loops (meaning parts) t s) ≤ LOOPS
   common-few t s below = omega (arith, common-first (meaning parts) t s is.well_formed (all-there t below), depth-few t below)
@@ -121,7 +120,7 @@ pub depth-read : (parts : ProgramParts) (table : List Statement) (statement k co
     → statement < length parts.statements → k ≡ statement → at ≡ get_or table k at → count ≡ length at.bounds.items → count ≡ depth_of (meaning parts) statement
 depth-read parts table statement k count at is same below e read is_count =
     let here : at ≡ get_or parts.statements statement at = read ∙ ap (λ (xs : List Statement). get_or xs k at) same ∙ ap (λ n. get_or parts.statements n at) e in
-    is_count ∙ sym (ap (λ (p : List PathStep). length p) (path-is parts statement at is below here) ∙ length-map at.bounds.items step_of)
+    is_count ∙ sym (ap length (bounds-are parts statement at is below here))
 
 -- the writers of an array write it
 writers-all : (program : AffineProgram) (first : ℕ) (statements : List ModelStatement) (array : ℕ)

@@ -8,12 +8,12 @@ use Rattle.std.proofs.lemmas.Bool.{eq-eqb, lt-ltb}
 use Rattle.std.proofs.lemmas.List.{append_assoc, append-nil, length-append, length-map, map-append}
 use Rattle.base_laws.proofs.Lists.{All-append}
 use Rattle.iolb_model.specs.Form.{AffineForm, form_value}
-use Rattle.iolb_model.specs.Path.{row_path}
+use Rattle.iolb_model.specs.Path.{bounds_on, row_path}
 use Rattle.iolb_model.specs.Program.{Direction, Statement, AffineProgram, IsWellFormed, statement_at, no_statement}
 use Rattle.iolb_model.specs.Bound.{IsAdmitted}
 use Rattle.iolb_model.specs.Execution.{Instance, execution}
 use Rattle.iolb_model.specs.Source.{written_at, input as input_source, Cell, written_cell, source_or, read_cell}
-use Rattle.iolb_model.specs.Domain.{IsWithin, IsInDomain, IsAt}
+use Rattle.iolb_model.specs.Domain.{LeadAlong, IsInDomain, IsAt}
 use Rattle.iolb_model.specs.Order.{common_loops, Precedes}
 use Rattle.execution_laws.proofs.Members.{Member, Member-map, Member-flat_map}
 use Rattle.execution_laws.proofs.Domains.{domains_executed, way-there, way-below, statements-rise, counted-has}
@@ -23,7 +23,7 @@ use Rattle.affine_form.specs.System.{AffineSystem, IsMet}
 use Rattle.affine_form.specs.Rows.{widened, equality_rows, put_in, order_rows, IsSmallOver}
 use Rattle.affine_form.proofs.RowLemmas.{length-variables}
 use Rattle.affine_form.proofs.Meaning.{HasLevel, equality_rows-met, equality_rows-say, order_rows-met, order_rows-say, values-end, values-front, values-middle, values_at-front, values_at-put_in, widened-met, widened-stay}
-use Rattle.affine_program.specs.Domain.{path_of, depth_of, domain_of, domain_rows}
+use Rattle.affine_program.specs.Domain.{path_of, bounds_at, depth_of, domain_of, domain_rows}
 use Rattle.dep_quast.specs.Tree.{SourceClaim}
 use Rattle.dep_quast.specs.Levels.{level_count, levels, writers, writers_from}
 use Rattle.dep_quast.specs.Context.{ReadOf, reference_of, variables_at, context, reader_point, parameter_point, reader_values, writer_values, variables_with, write_rows, earlier_write, earlier_writes, write_between, writes_between}
@@ -75,12 +75,12 @@ Member-levels program t s level h = counted-has 0 (level_count program t s) leve
 
 module _ (program : AffineProgram) (reader : ReadOf) (parameters : List ℤ) (place : ℕ) (values : List ℤ) (well : IsWellFormed program)
     (admitted : IsAdmitted program parameters) (reader-there : reader.statement < length program.statements) (here : IsAt program parameters place (record { statement = reader.statement; values = values })) where
-  reader-within : IsWithin (path_of program reader.statement) parameters values
-  reader-within = there-holds (row_path program.tree reader.statement) (λ path. IsWithin path parameters values)
+  reader-within : LeadAlong (path_of program reader.statement) parameters values
+  reader-within = there-holds (row_path program.tree reader.statement) (λ path. LeadAlong path parameters values)
       ((domains_executed program parameters (record { statement = reader.statement; values = values }) well).0 (place, here))
 
   reader-count : depth_of program reader.statement ≡ length values
-  reader-count = sym (within-length (path_of program reader.statement) parameters values reader-within)
+  reader-count = sym (within-length (bounds_at program reader.statement) parameters values reader-within.0)
 
   pub point-count : variables_at program reader ≡ length (parameters ++ values)
   point-count = omega (arith, length-append parameters values, admitted.each, reader-count)
@@ -110,16 +110,16 @@ module _ (program : AffineProgram) (reader : ReadOf) (parameters : List ℤ) (pl
       subst (IsMet (map (widened vars) program.assumptions)) (sym (append_assoc parameters values rest))
       (widened-met vars (length program.parameters) program.assumptions parameters (values ++ rest) well.assumptions (sym admitted.each) admitted.met) in
       let domain : IsMet (domain_of program reader.statement).rows point =
-      domain_rows-met program reader.statement vars (parameter_point program vars) (reader_values program reader vars) point
-      (subst (λ (q : List ℤ). IsWithin (path_of program reader.statement) q (values_at (reader_values program reader vars) point)) (sym (parameters-at vars rest (omega arith)))
-      (subst (λ (q : List ℤ). IsWithin (path_of program reader.statement) parameters q) (sym (values-are vars rest (omega arith))) reader-within)) in
+      domain_rows-met program reader.statement vars (parameter_point program vars) (reader_values program reader vars) point well (length-variables vars 0 (length program.parameters))
+      (subst (λ (q : List ℤ). LeadAlong (path_of program reader.statement) q (values_at (reader_values program reader vars) point)) (sym (parameters-at vars rest (omega arith)))
+      (subst (λ (q : List ℤ). LeadAlong (path_of program reader.statement) parameters q) (sym (values-are vars rest (omega arith))) reader-within)) in
       let at_point : AffineForm → Type 0 = λ row. pos 0 ≤ℤ form_value row point in
       All-append at_point (map (widened vars) program.assumptions ++ (domain_of program reader.statement).rows) tests
       (All-append at_point (map (widened vars) program.assumptions) (domain_of program reader.statement).rows assumptions domain) (met rest)
 
   -- the rows of a write are met by an instance that writes the cell
   write_rows-met : (tests : List AffineForm) → ((rest : List ℤ) → IsMet tests ((parameters ++ values) ++ rest)) → (writer : ℕ) (z : List ℤ)
-      → IsWithin (path_of program writer) parameters z
+      → LeadAlong (path_of program writer) parameters z
       → written_cell program parameters (record { statement = writer; values = z }) ≡ read_cell program parameters reader.statement reader.read values
       → IsMet (write_rows program reader (context program reader tests) writer) ((parameters ++ values) ++ z)
   write_rows-met tests met writer z within same_cells =
@@ -129,14 +129,14 @@ module _ (program : AffineProgram) (reader : ReadOf) (parameters : List ℤ) (pl
       let zs : List AffineForm = writer_values program reader writer vars in
       let written : List AffineForm = (statement_at program writer).writes.subscripts in
       let read : List AffineForm = (reference_of program reader).subscripts in
-      let count : depth_of program writer ≡ length z = sym (within-length (path_of program writer) parameters z within) in
+      let count : depth_of program writer ≡ length z = sym (within-length (bounds_at program writer) parameters z within.0) in
       let is_params : values_at params point ≡ parameters = parameters-at vars z (omega arith) in
       let is_z : values_at zs point ≡ z = writer-values writer z count in
       let rows : IsMet (map (widened vars) (context program reader tests)) point = widened-stay vars (context program reader tests) point (context-met tests met z) in
       let domain : IsMet (domain_rows program writer vars params zs) point =
-      domain_rows-met program writer vars params zs point
-      (subst (λ (q : List ℤ). IsWithin (path_of program writer) q (values_at zs point)) (sym is_params)
-      (subst (λ (q : List ℤ). IsWithin (path_of program writer) parameters q) (sym is_z) within)) in
+      domain_rows-met program writer vars params zs point well (length-variables vars 0 (length program.parameters))
+      (subst (λ (q : List ℤ). LeadAlong (path_of program writer) q (values_at zs point)) (sym is_params)
+      (subst (λ (q : List ℤ). LeadAlong (path_of program writer) parameters q) (sym is_z) within)) in
       let left : values_at (put_in (params ++ zs) written) point ≡ values_at written (parameters ++ z) =
       values_at-put_in (params ++ zs) written point ∙ ap (values_at written) (map-append (λ form. form_value form point) params zs ∙ ap (λ (q : List ℤ). q ++ values_at zs point) is_params ∙ ap (λ (q : List ℤ). parameters ++ q) is_z) in
       let right : values_at (put_in (reader_point program reader vars) read) point ≡ values_at read (parameters ++ values) =
@@ -154,15 +154,15 @@ module _ (program : AffineProgram) (reader : ReadOf) (parameters : List ℤ) (pl
       → Member writer (writers program (reference_of program reader).array)
   writer-member writer z k at same_cells =
       let domain : IsInDomain program parameters (record { statement = writer; values = z }) = (domains_executed program parameters (record { statement = writer; values = z }) well).0 (k, at) in
-      let below : writer < length program.statements = way-below program writer (λ path. IsWithin path parameters z) well domain in
+      let below : writer < length program.statements = way-below program writer (λ path. LeadAlong path parameters z) well domain in
       subst (λ (n : ℕ). Member n (writers program (reference_of program reader).array)) (none writer)
       (Member-writers 0 program.statements (reference_of program reader).array writer below (ap (λ (c : Cell). c.array) same_cells)) where
         none : (n : ℕ) → 0 + n ≡ n
         none n = omega arith
 
-  writer-within : (writer : ℕ) (z : List ℤ) (k : ℕ) → IsAt program parameters k (record { statement = writer; values = z }) → IsWithin (path_of program writer) parameters z
+  writer-within : (writer : ℕ) (z : List ℤ) (k : ℕ) → IsAt program parameters k (record { statement = writer; values = z }) → LeadAlong (path_of program writer) parameters z
   writer-within writer z k at =
-      there-holds (row_path program.tree writer) (λ path. IsWithin path parameters z) ((domains_executed program parameters (record { statement = writer; values = z }) well).0 (k, at))
+      there-holds (row_path program.tree writer) (λ path. LeadAlong path parameters z) ((domains_executed program parameters (record { statement = writer; values = z }) well).0 (k, at))
 
   -- a write before the reader has a level, and meets the rows of the order
   before-reader : (writer : ℕ) (z : List ℤ) (k : ℕ) → IsAt program parameters k (record { statement = writer; values = z }) → k < place
@@ -173,7 +173,7 @@ module _ (program : AffineProgram) (reader : ReadOf) (parameters : List ℤ) (pl
       let point : List ℤ = (parameters ++ values) ++ z in
       let vars : ℕ = variables_with program reader writer in
       let loops : List Direction = common_loops program writer reader.statement in
-      let count : depth_of program writer ≡ length z = sym (within-length (path_of program writer) parameters z (writer-within writer z k at)) in
+      let count : depth_of program writer ≡ length z = sym (within-length (bounds_at program writer) parameters z (writer-within writer z k at).0) in
       let level = (order_by_levels program parameters k place (record { statement = writer; values = z }) (record { statement = reader.statement; values = values }) well at here).0 less in
       let precedes : Precedes loops level.0 writer reader.statement (values_at (writer_values program reader writer vars) point) (values_at (reader_values program reader vars) point) =
       subst (λ (ys : List ℤ). Precedes loops level.0 writer reader.statement ys (values_at (reader_values program reader vars) point)) (sym (writer-values writer z count))
@@ -209,11 +209,11 @@ module _ (program : AffineProgram) (reader : ReadOf) (parameters : List ℤ) (pl
       let point : List ℤ = parameters ++ values in
       let vars : ℕ = variables_at program reader in
       let is_params : values_at (parameter_point program vars) point ≡ parameters = values-front vars (length program.parameters) parameters values (sym admitted.each) (omega arith) in
-      let within : IsWithin (path_of program claim.statement) parameters (values_at claim.point point) =
-      subst (λ (q : List ℤ). IsWithin (path_of program claim.statement) q (values_at claim.point point)) is_params
-      (domain_rows-says program claim.statement vars (parameter_point program vars) claim.point point count met) in
+      let within : LeadAlong (path_of program claim.statement) parameters (values_at claim.point point) =
+      subst (λ (q : List ℤ). LeadAlong (path_of program claim.statement) q (values_at claim.point point)) is_params
+      (domain_rows-says program claim.statement vars (parameter_point program vars) claim.point point well (length-variables vars 0 (length program.parameters)) count met) in
       (domains_executed program parameters (record { statement = claim.statement; values = values_at claim.point point }) well).1
-      (holds-there (row_path program.tree claim.statement) (λ path. IsWithin path parameters (values_at claim.point point)) (way-there program claim.statement well below) within)
+      (holds-there (row_path program.tree claim.statement) (λ path. LeadAlong path parameters (values_at claim.point point)) (way-there program claim.statement well below) within)
 
   -- the source that is shown to write the cell writes it
   pub source-cell : (claim : SourceClaim) → length (statement_at program claim.statement).writes.subscripts ≡ length (reference_of program reader).subscripts
@@ -251,10 +251,10 @@ module _ (program : AffineProgram) (reader : ReadOf) (parameters : List ℤ) (pl
       let loops : List Direction = common_loops program claim.statement reader.statement in
       let ys_enough : length loops ≤ length claim.point =
       subst (λ (n : ℕ). length loops ≤ n) (sym count)
-      (there-holds (row_path program.tree claim.statement) (λ path. length loops ≤ length path)
+      (there-holds (row_path program.tree claim.statement) (λ path. length loops ≤ length (bounds_on path))
       (row_common-within program.tree claim.statement reader.statement (statements-rise program well) (way-there program claim.statement well below))) in
       let turned : length (common_loops program reader.statement claim.statement) ≤ depth_of program reader.statement =
-      there-holds (row_path program.tree reader.statement) (λ path. length (common_loops program reader.statement claim.statement) ≤ length path)
+      there-holds (row_path program.tree reader.statement) (λ path. length (common_loops program reader.statement claim.statement) ≤ length (bounds_on path))
       (row_common-within program.tree reader.statement claim.statement (statements-rise program well) (way-there program reader.statement well reader-there)) in
       let xs_enough : length loops ≤ length (reader_values program reader vars) =
       omega (arith, turned, ap length (row_common-turn program.tree claim.statement reader.statement), length-variables vars (length program.parameters) (depth_of program reader.statement)) in
@@ -275,7 +275,7 @@ module _ (program : AffineProgram) (reader : ReadOf) (parameters : List ℤ) (pl
       let point : List ℤ = (parameters ++ values) ++ z in
       let vars : ℕ = variables_with program reader w in
       let loops : List Direction = common_loops program claim.statement w in
-      let count : depth_of program w ≡ length z = sym (within-length (path_of program w) parameters z (writer-within w z k writes)) in
+      let count : depth_of program w ≡ length z = sym (within-length (bounds_at program w) parameters z (writer-within w z k writes).0) in
       let level = (order_by_levels program parameters at k (record { statement = claim.statement; values = values_at claim.point (parameters ++ values) }) (record { statement = w; values = z }) well stands writes).0 less in
       let precedes : Precedes loops level.0 claim.statement w (values_at claim.point point) (values_at (writer_values program reader w vars) point) =
       subst (λ (ys : List ℤ). Precedes loops level.0 claim.statement w ys (values_at (writer_values program reader w vars) point)) (sym (values_at-front (variables_at program reader) claim.point (parameters ++ values) z forms point-count))

@@ -5,7 +5,7 @@ ghost use Rattle.std.specs.List.{AllByRecursion};
 ghost use Rattle.iolb_model.specs.Program.{statement_at};
 ghost use Rattle.iolb_model.specs.Order.{common_loops};
 ghost use Rattle.affine_form.specs.System.{AllOver};
-ghost use Rattle.affine_form.specs.Rows.{within_rows, equality_rows, put_in, order_rows, IsSmallOver, IsSmallWithin};
+ghost use Rattle.affine_form.specs.Rows.{equality_rows, put_in, order_rows, IsSmallOver, IsSmallWithin};
 ghost use Rattle.affine_program.specs.Domain.{depth_of, domain_rows, domain_size};
 ghost use Rattle.affine_program.specs.Parts.{meaning};
 ghost use Rattle.dep_quast.specs.Context.{reference_of, variables_at, parameter_point, reader_point};
@@ -14,7 +14,7 @@ ghost use Rattle.dep_quast.specs.Views.{read_of};
 ghost use Rattle.iolb_model.specs.declared.limits.TheConstants.{VARIABLES};
 
 use crate::reader::{Reader, reference, variables, written};
-use affine_form::{Form, Memory, cell_rows, order_rows, variables_from, within_rows};
+use affine_form::{Form, Memory, cell_rows, order_rows, variables_from};
 use affine_program::Program;
 use claims::lists::followed_by;
 use std::alloc::Global;
@@ -36,11 +36,9 @@ pub fn domain_rows(
     ensures many { IfOk result (λ rows. length rows.items ≡ domain_size (meaning program.now) statement) }
     ensures over { IfOk result (λ rows. AllOver vars rows.items) }
 {
-    let bounds = program.statements()[usize::from(statement)]
-        .bounds
-        .as_slice();
     let params = variables_from(alloc, vars, 0, program.params().len())?;
-    let rows = within_rows(alloc, vars, bounds, params.as_slice(), values)?;
+    let point = followed_by(alloc, params, values)?;
+    let rows = program.domain_rows(alloc, vars, statement, point.as_slice())?;
     Ok(rows)
 }
 

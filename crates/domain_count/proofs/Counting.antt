@@ -8,7 +8,6 @@ use Rattle.std.proofs.lemmas.Int.{ints}
 use Rattle.std.proofs.lemmas.List.{append_assoc, append-nil, length-append, length-map, map-append}
 use Rattle.base_laws.proofs.Lists.{All-append}
 use Rattle.iolb_model.specs.Form.{AffineForm, dot, form_value}
-use Rattle.iolb_model.specs.Path.{PathStep, bounded}
 use Rattle.iolb_model.specs.Program.{AffineProgram, IsWellFormed}
 use Rattle.iolb_model.specs.Bound.{IsAdmitted}
 use Rattle.iolb_model.specs.Domain.{IsWithin}
@@ -16,7 +15,7 @@ use Rattle.affine_form.specs.Multipliers.{FarkasMultipliers}
 use Rattle.affine_form.specs.Substitution.{values_at}
 use Rattle.affine_form.specs.System.{IsMet}
 use Rattle.affine_form.proofs.ShownLemmas.{Shows-follows}
-use Rattle.affine_form.specs.Rows.{BoundsFit, widened, variables_from, within_rows, step_of}
+use Rattle.affine_form.specs.Rows.{BoundsFit, widened, variables_from, within_rows}
 use Rattle.affine_form.proofs.Meaning.{form_value-difference, values-end, values-front, widened-met, within_rows-met}
 use Rattle.poly_tree.specs.Expansion.{at, put, value}
 use Rattle.poly_tree.specs.Poly.{Quotient, numerator_at}
@@ -97,27 +96,27 @@ counted (bounds ∷ nest) (sum ∷ sums) total before fit whole h =
     (subst (λ (n : ℕ). IsSumFrom n nest sums h.0) (longer before x) h.1.0))
 
 -- a value more within its bounds
-within-more : (path : List PathStep) (lower upper : AffineForm) (point xs : List ℤ) (x : ℤ) → IsWithin path point xs
-    → form_value lower (point ++ xs) ≤ℤ x → x ≤ℤ form_value upper (point ++ xs) → IsWithin (path ++ bounded lower upper ∷ []) point (xs ++ x ∷ [])
-within-more [] lower upper point [] x h p q =
+within-more : (loops : List (AffineForm × AffineForm)) (bounds : AffineForm × AffineForm) (point xs : List ℤ) (x : ℤ) → IsWithin loops point xs
+    → form_value bounds.0 (point ++ xs) ≤ℤ x → x ≤ℤ form_value bounds.1 (point ++ xs) → IsWithin (loops ++ bounds ∷ []) point (xs ++ x ∷ [])
+within-more [] bounds point [] x h p q =
     let same = append-nil point in (
-      subst (λ (ps : List ℤ). form_value lower ps ≤ℤ x) same p,
-      subst (λ (ps : List ℤ). x ≤ℤ form_value upper ps) same q,
+      subst (λ (ps : List ℤ). form_value bounds.0 ps ≤ℤ x) same p,
+      subst (λ (ps : List ℤ). x ≤ℤ form_value bounds.1 ps) same q,
       tt,
     )
-within-more [] lower upper point (y ∷ xs) x h p q = absurd h
-within-more (bounded l u ∷ path) lower upper point [] x h p q = absurd h
-within-more (bounded l u ∷ path) lower upper point (y ∷ xs) x h p q =
+within-more [] bounds point (y ∷ xs) x h p q = absurd h
+within-more (first ∷ loops) bounds point [] x h p q = absurd h
+within-more (first ∷ loops) bounds point (y ∷ xs) x h p q =
     let same = append_assoc point (y ∷ []) xs in (
       h.0,
       h.1,
-      within-more path lower upper (point ++ y ∷ []) xs x h.2 (subst (λ (ps : List ℤ). form_value lower ps ≤ℤ x) (sym same) p)
-          (subst (λ (ps : List ℤ). x ≤ℤ form_value upper ps) (sym same) q),
+      within-more loops bounds (point ++ y ∷ []) xs x h.2 (subst (λ (ps : List ℤ). form_value bounds.0 ps ≤ℤ x) (sym same) p)
+          (subst (λ (ps : List ℤ). x ≤ℤ form_value bounds.1 ps) (sym same) q),
     )
 
 -- a shown range is whole at values within the bounds of the variables before
 range-whole : (program : AffineProgram) (before : List (AffineForm × AffineForm)) (bounds : AffineForm × AffineForm) (shown : FarkasMultipliers) (values xs : List ℤ)
-    → IsWellFormed program → IsAdmitted program values → length xs ≡ length before → IsWithin (map step_of before) values xs → ShowsRange program before bounds shown
+    → IsWellFormed program → IsAdmitted program values → length xs ≡ length before → IsWithin before values xs → ShowsRange program before bounds shown
     → pos 0 ≤ℤ ((form_value bounds.1 (values ++ xs) -ℤ form_value bounds.0 (values ++ xs)) +ℤ pos 1)
 range-whole program before bounds shown values xs formed admitted same within shows =
     let params = length program.parameters in
@@ -127,18 +126,18 @@ range-whole program before bounds shown values xs formed admitted same within sh
     let point = values ++ xs in
     let assumed : IsMet (map (widened vars) program.assumptions) point
     = widened-met vars params program.assumptions values xs formed.assumptions (sym admitted.each) admitted.met in
-    let ranges : IsMet (within_rows vars (map step_of before) (variables_from vars 0 params) (variables_from vars params (length before))) point
-    = within_rows-met vars (map step_of before) (variables_from vars 0 params) (variables_from vars params (length before)) point
-    (subst (λ (ps : List ℤ). IsWithin (map step_of before) ps (values_at (variables_from vars params (length before)) point)) (sym front)
-    (subst (λ (ys : List ℤ). IsWithin (map step_of before) values ys) (sym end) within)) in
+    let ranges : IsMet (within_rows vars before (variables_from vars 0 params) (variables_from vars params (length before))) point
+    = within_rows-met vars before (variables_from vars 0 params) (variables_from vars params (length before)) point
+    (subst (λ (ps : List ℤ). IsWithin before ps (values_at (variables_from vars params (length before)) point)) (sym front)
+    (subst (λ (ys : List ℤ). IsWithin before values ys) (sym end) within)) in
     subst (λ (z : ℤ). pos 0 ≤ℤ z) (form_value-difference vars bounds.1 bounds.0 (pos 1) point)
     (Shows-follows (rows_before program before) (range_goal vars bounds) shown shows.0 shows.1 point
     (All-append (λ (row : AffineForm). pos 0 ≤ℤ form_value row point) (map (widened vars) program.assumptions)
-    (within_rows vars (map step_of before) (variables_from vars 0 params) (variables_from vars params (length before))) assumed ranges))
+    (within_rows vars before (variables_from vars 0 params) (variables_from vars params (length before))) assumed ranges))
 
 -- all ranges are whole where all are shown
 ranges-whole : (program : AffineProgram) (nest before rest : List (AffineForm × AffineForm)) (shown : List FarkasMultipliers) (values xs : List ℤ)
-    → IsWellFormed program → IsAdmitted program values → nest ≡ before ++ rest → length xs ≡ length before → IsWithin (map step_of before) values xs
+    → IsWellFormed program → IsAdmitted program values → nest ≡ before ++ rest → length xs ≡ length before → IsWithin before values xs
     → AreShownBelow program nest shown (length nest) → RangesAreWhole rest (values ++ xs)
 ranges-whole program nest before [] shown values xs formed admitted split same within all = tt
 ranges-whole program nest before (bounds ∷ rest) shown values xs formed admitted split same within all =
@@ -153,8 +152,7 @@ ranges-whole program nest before (bounds ∷ rest) shown values xs formed admitt
       λ x p q. subst (λ (ps : List ℤ). RangesAreWhole rest ps) (sym (append_assoc values xs (x ∷ [])))
           (ranges-whole program nest (before ++ bounds ∷ []) rest shown values (xs ++ x ∷ []) formed admitted (split ∙ sym (append_assoc before (bounds ∷ []) rest))
           (omega (arith, length-append xs (x ∷ []), length-append before (bounds ∷ [])))
-          (subst (λ (path : List PathStep). IsWithin path values (xs ++ x ∷ [])) (sym (map-append step_of before (bounds ∷ [])))
-          (within-more (map step_of before) bounds.0 bounds.1 values xs x within p q)) all),
+          (within-more before bounds values xs x within p q) all),
     )
 
 pub right-claims-count : RightClaimsCount

@@ -8,7 +8,7 @@ use Rattle.iolb_model.specs.Bound.{IsAdmitted}
 use Rattle.affine_form.specs.Multipliers.{FarkasMultipliers}
 use Rattle.affine_form.specs.Shown.{Shows}
 use Rattle.affine_form.specs.System.{AffineSystem}
-use Rattle.affine_form.specs.Rows.{BoundsFit, widened, variables_from, difference, within_rows, step_of}
+use Rattle.affine_form.specs.Rows.{BoundsFit, widened, variables_from, difference, within_rows}
 use Rattle.poly_tree.specs.Expansion.{number}
 use Rattle.poly_tree.specs.Poly.{Quotient, numerator_at}
 use Rattle.domain_count.specs.Points.{count}
@@ -22,7 +22,7 @@ rows_before program before =
     let params = length program.parameters in let vars = params + length before in record {
       vars = vars;
       rows = map (widened vars) program.assumptions
-          ++ within_rows vars (map step_of before) (variables_from vars 0 params) (variables_from vars params (length before));
+          ++ within_rows vars before (variables_from vars 0 params) (variables_from vars params (length before));
     }
 
 -- the goal that a variable's range is whole: `upper - lower + 1`

@@ -1,14 +1,14 @@
 -- The instances of an execution are in the order of the levels.
 use Rattle.std.proofs.Common.{◌≡◌, refl, sym, ◌∙◌, ap, subst, inl, inr, ℕ, zero, suc, ◌<◌, ◌≤◌, Bool, true, false, List, [], ◌∷◌, ◌++◌, map, take, arith, length}
-use Rattle.std.specs.Prelude.{◌⊎◌, ◌&&◌, ◌<ℤ◌, if◌then◌else◌, Option, Some, None, IsSomeAnd, is_some, slice_get, option_map}
+use Rattle.std.specs.Prelude.{◌⊎◌, ◌&&◌, if◌then◌else◌, Option, Some, None, IsSomeAnd, is_some, slice_get, option_map}
 use Rattle.std.proofs.lemmas.Int.{ints}
 use Rattle.std.proofs.Math.IntN.{ℤ}
-use Rattle.iolb_model.specs.Form.{form_value}
-use Rattle.iolb_model.specs.Path.{PathStep, first_of, item_path, row_path, bounded}
-use Rattle.iolb_model.specs.Program.{Direction, upward, downward, Item, assign, loop, Row, done, next, AffineProgram, IsWellFormed, item_statements, row_statements}
+use Rattle.iolb_model.specs.Form.{form_value, are_met}
+use Rattle.iolb_model.specs.Path.{PathStep, first_of, item_path, row_path, bounded, guarded, bounds_on}
+use Rattle.iolb_model.specs.Program.{Direction, upward, downward, Item, assign, loop, guard, Row, done, next, AffineProgram, IsWellFormed, item_statements, row_statements}
 use Rattle.iolb_model.specs.Execution.{Instance, loop_values, at_value, item_runs, row_runs, execution}
 use Rattle.execution_laws.specs.Domain.{InstancesAreExecutedOnce}
-use Rattle.iolb_model.specs.Domain.{IsWithin}
+use Rattle.iolb_model.specs.Domain.{LeadAlong}
 use Rattle.execution_laws.specs.Order.{OrderIsByLevels}
 use Rattle.iolb_model.specs.Order.{GoesBefore, has_both, item_common, row_common, Precedes}
 use Rattle.execution_laws.proofs.Members.{Member}
@@ -33,7 +33,7 @@ there (Some x) P h = refl
 
 -- an item has the statements of its instances
 item_has : (item : Item) (point : List ℤ) (a : Instance) → Rises (item_statements item) → Member a (item_runs item point) → is_some (item_path item a.statement) ≡ true
-item_has item point a rise m = there (item_path item a.statement) (λ path. IsWithin path point a.values) (item_runs-within item point a.statement a.values rise m)
+item_has item point a rise m = there (item_path item a.statement) (λ path. LeadAlong path point a.values) (item_runs-within item point a.statement a.values rise m)
 
 -- and none of those of the items after it
 item_lacks : (item : Item) (row : Row) (point : List ℤ) (a : Instance) → Rises (item_statements item ++ row_statements row) → Member a (row_runs row point)
@@ -41,7 +41,7 @@ item_lacks : (item : Item) (row : Row) (point : List ℤ) (a : Instance) → Ris
 item_lacks item row point a rise m = by (is_some (item_path item a.statement)) refl where
   by : (b : Bool) → b ≡ is_some (item_path item a.statement) → is_some (item_path item a.statement) ≡ false
   by true e = absurd (in_one item row a.statement rise
-      (row_path-statement row a.statement (λ path. IsWithin path point a.values) (row_runs-within row point a.statement a.values (Ordered-right ◌<◌ (item_statements item) (row_statements row) rise) m)) (sym e))
+      (row_path-statement row a.statement (λ path. LeadAlong path point a.values) (row_runs-within row point a.statement a.values (Ordered-right ◌<◌ (item_statements item) (row_statements row) rise) m)) (sym e))
   by false e = sym e
 
 both_first : (item : Item) (row : Row) (t s : ℕ) → is_some (item_path item t) ≡ true → is_some (item_path item s) ≡ true → row_common (next item row) t s ≡ item_common item t s
@@ -83,8 +83,8 @@ before_across item row point a b rise m n =
     let none : row_common (next item row) a.statement b.statement ≡ [] =
     both_later item row a.statement b.statement (item_lacks item row point b rise n) ∙ no_common row a.statement b.statement (row_lacks item row point a rise m) in
     let earlier : a.statement < b.statement = Ordered-across ◌<◌ (item_statements item) (row_statements row) rise a.statement b.statement
-    (item_path-statement item a.statement (λ path. IsWithin path point a.values) (item_runs-within item point a.statement a.values (Ordered-left ◌<◌ (item_statements item) (row_statements row) rise) m))
-    (row_path-statement row b.statement (λ path. IsWithin path point b.values) (row_runs-within row point b.statement b.values (Ordered-right ◌<◌ (item_statements item) (row_statements row) rise) n)) in
+    (item_path-statement item a.statement (λ path. LeadAlong path point a.values) (item_runs-within item point a.statement a.values (Ordered-left ◌<◌ (item_statements item) (row_statements row) rise) m))
+    (row_path-statement row b.statement (λ path. LeadAlong path point b.values) (row_runs-within row point b.statement b.values (Ordered-right ◌<◌ (item_statements item) (row_statements row) rise) n)) in
     subst (λ (loops : List Direction). Before loops a b) (sym none) (zero, earlier)
 
 -- an instance at a value of the loop has that value first
@@ -111,6 +111,10 @@ mutual
       (λ value. Ordered-map (RowBefore body) (ItemBefore (loop name direction lower upper body)) (at_value value) (row_runs body (point ++ value ∷ []))
       (row_runs-ordered body (point ++ value ∷ []) rise) (λ a b before. (suc before.0, (refl, before.1))))
       (λ v w before y z m n. before_values direction (row_common body y.statement z.statement) v w y z before (at_value-first v y (row_runs body (point ++ v ∷ [])) m) (at_value-first w z (row_runs body (point ++ w ∷ [])) n))
+  item_runs-ordered (guard rows body) point rise = tested (are_met rows point) (row_runs-ordered body point rise) where
+    tested : (b : Bool) → IsOrdered (RowBefore body) (row_runs body point) → IsOrdered (RowBefore body) (if b then row_runs body point else [])
+    tested true ordered = ordered
+    tested false ordered = tt
 
   pub row_runs-ordered : (row : Row) (point : List ℤ) → Rises (row_statements row) → IsOrdered (RowBefore row) (row_runs row point)
   row_runs-ordered done point rise = tt
@@ -137,6 +141,7 @@ mutual
   item_common-turn : (item : Item) (t s : ℕ) → item_common item t s ≡ item_common item s t
   item_common-turn (assign number) t s = refl
   item_common-turn (loop name direction lower upper body) t s = ap (λ (loops : List Direction). direction ∷ loops) (row_common-turn body t s)
+  item_common-turn (guard rows body) t s = row_common-turn body t s
 
   pub row_common-turn : (row : Row) (t s : ℕ) → row_common row t s ≡ row_common row s t
   row_common-turn done t s = refl
@@ -159,6 +164,7 @@ mutual
   item_common-front : (item : Item) (t s : ℕ) → Rises (item_statements item) → item_common item t s ≡ take (length (item_common item t s)) (item_common item t t)
   item_common-front (assign number) t s rise = refl
   item_common-front (loop name direction lower upper body) t s rise = ap (λ (loops : List Direction). direction ∷ loops) (row_common-front body t s rise)
+  item_common-front (guard rows body) t s rise = row_common-front body t s rise
 
   pub row_common-front : (row : Row) (t s : ℕ) → Rises (row_statements row) → row_common row t s ≡ take (length (row_common row t s)) (row_common row t t)
   row_common-front done t s rise = refl
@@ -237,9 +243,9 @@ order_by_levels program parameters m n a b well p q = (
 -- the loops in common are no more than those around the first statement
 mutual
   item_common-within : (item : Item) (t s : ℕ) → Rises (item_statements item) → IsSomeAnd (item_path item t) (λ path. Unit {0})
-      → IsSomeAnd (item_path item t) (λ path. length (item_common item t s) ≤ length path)
+      → IsSomeAnd (item_path item t) (λ path. length (item_common item t s) ≤ length (bounds_on path))
   item_common-within (assign number) t s rise h = weaker (item_path (assign number) t) h where
-    weaker : (o : Option (List PathStep)) → IsSomeAnd o (λ path. Unit {0}) → IsSomeAnd o (λ path. 0 ≤ length path)
+    weaker : (o : Option (List PathStep)) → IsSomeAnd o (λ path. Unit {0}) → IsSomeAnd o (λ path. 0 ≤ length (bounds_on path))
     weaker None h = h
     weaker (Some path) h = omega arith
   item_common-within (loop name direction lower upper body) t s rise h =
@@ -248,13 +254,23 @@ mutual
         inside None h = h
         inside (Some path) h = tt
 
-        longer : (o : Option (List PathStep)) → IsSomeAnd o (λ path. length (row_common body t s) ≤ length path)
-            → IsSomeAnd (option_map (λ path. bounded lower upper ∷ path) o) (λ path. suc (length (row_common body t s)) ≤ length path)
+        longer : (o : Option (List PathStep)) → IsSomeAnd o (λ path. length (row_common body t s) ≤ length (bounds_on path))
+            → IsSomeAnd (option_map (λ path. bounded lower upper ∷ path) o) (λ path. suc (length (row_common body t s)) ≤ length (bounds_on path))
         longer None h = h
         longer (Some path) h = omega arith
+  item_common-within (guard rows body) t s rise h =
+      same (row_path body t) (row_common-within body t s rise (inside (row_path body t) h)) where
+        inside : (o : Option (List PathStep)) → IsSomeAnd (option_map (λ path. guarded rows ∷ path) o) (λ path. Unit {0}) → IsSomeAnd o (λ path. Unit {0})
+        inside None h = h
+        inside (Some path) h = tt
+
+        same : (o : Option (List PathStep)) → IsSomeAnd o (λ path. length (row_common body t s) ≤ length (bounds_on path))
+            → IsSomeAnd (option_map (λ path. guarded rows ∷ path) o) (λ path. length (row_common body t s) ≤ length (bounds_on path))
+        same None h = h
+        same (Some path) h = h
 
   pub row_common-within : (row : Row) (t s : ℕ) → Rises (row_statements row) → IsSomeAnd (row_path row t) (λ path. Unit {0})
-      → IsSomeAnd (row_path row t) (λ path. length (row_common row t s) ≤ length path)
+      → IsSomeAnd (row_path row t) (λ path. length (row_common row t s) ≤ length (bounds_on path))
   row_common-within done t s rise h = absurd h
   row_common-within (next item row) t s rise h =
       elim (either (item_path item t) (row_path row t) h) [
@@ -269,16 +285,16 @@ mutual
       either None p h = inr (refl, h)
       either (Some path) p h = inl (refl, h)
 
-      second : (o p : Option (List PathStep)) → is_some o ≡ false → IsSomeAnd p (λ path. length (row_common row t s) ≤ length path)
-          → IsSomeAnd (first_of o p) (λ path. length (if is_some o && is_some (item_path item s) then item_common item t s else row_common row t s) ≤ length path)
+      second : (o p : Option (List PathStep)) → is_some o ≡ false → IsSomeAnd p (λ path. length (row_common row t s) ≤ length (bounds_on path))
+          → IsSomeAnd (first_of o p) (λ path. length (if is_some o && is_some (item_path item s) then item_common item t s else row_common row t s) ≤ length (bounds_on path))
       second None p e h = h
       second (Some path) p e h = absurd cc
 
-      first : (o p : Option (List PathStep)) (b : Bool) → b ≡ is_some (item_path item s) → is_some o ≡ true → IsSomeAnd o (λ path. length (item_common item t s) ≤ length path)
+      first : (o p : Option (List PathStep)) (b : Bool) → b ≡ is_some (item_path item s) → is_some o ≡ true → IsSomeAnd o (λ path. length (item_common item t s) ≤ length (bounds_on path))
           → (is_some (row_path row t) ≡ true → ⊥)
-          → IsSomeAnd (first_of o p) (λ path. length (if is_some o && is_some (item_path item s) then item_common item t s else row_common row t s) ≤ length path)
+          → IsSomeAnd (first_of o p) (λ path. length (if is_some o && is_some (item_path item s) then item_common item t s else row_common row t s) ≤ length (bounds_on path))
       first None p b e there h none = absurd cc
-      first (Some path) p true e there h none = subst (λ (c : Bool). length (if c then item_common item t s else row_common row t s) ≤ length path) e h
+      first (Some path) p true e there h none = subst (λ (c : Bool). length (if c then item_common item t s else row_common row t s) ≤ length (bounds_on path)) e h
       first (Some path) p false e there h none =
-          subst (λ (c : Bool). length (if c then item_common item t s else row_common row t s) ≤ length path) e
-          (subst (λ (loops : List Direction). length loops ≤ length path) (sym (no_common row t s none)) (omega arith))
+          subst (λ (c : Bool). length (if c then item_common item t s else row_common row t s) ≤ length (bounds_on path)) e
+          (subst (λ (loops : List Direction). length loops ≤ length (bounds_on path)) (sym (no_common row t s none)) (omega arith))

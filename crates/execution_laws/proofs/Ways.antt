@@ -2,15 +2,16 @@
 use Rattle.std.proofs.Common.{◌≡◌, refl, ap, suc, List, [], ◌∷◌, ◌++◌, length}
 use Rattle.std.specs.Prelude.{Option, Some, None, IsSomeAnd, unwrap_or}
 use Rattle.std.proofs.Math.IntN.{ℤ}
-use Rattle.iolb_model.specs.Path.{PathStep, bounded}
+use Rattle.iolb_model.specs.Form.{AffineForm}
+use Rattle.iolb_model.specs.Path.{PathStep}
 use Rattle.iolb_model.specs.Domain.{IsWithin}
 
--- values within the bounds on a way are one for each loop
-pub within-length : (path : List PathStep) (point values : List ℤ) → IsWithin path point values → length values ≡ length path
+-- values within the bounds of loops are one for each loop
+pub within-length : (bounds : List (AffineForm × AffineForm)) (point values : List ℤ) → IsWithin bounds point values → length values ≡ length bounds
 within-length [] point [] h = refl
 within-length [] point (v ∷ values) h = absurd h
-within-length (bounded lower upper ∷ path) point [] h = absurd h
-within-length (bounded lower upper ∷ path) point (v ∷ values) h = ap suc (within-length path (point ++ v ∷ []) values h.2)
+within-length (b ∷ bounds) point [] h = absurd h
+within-length (b ∷ bounds) point (v ∷ values) h = ap suc (within-length bounds (point ++ v ∷ []) values h.2)
 
 -- a way that is there, and what holds of it
 pub there-holds : (o : Option (List PathStep)) (P : List PathStep → Type 0) → IsSomeAnd o P → P (unwrap_or o [])

@@ -6,12 +6,11 @@ use Rattle.std.proofs.Math.IntN.{pos}
 use Rattle.std.proofs.lemmas.List.{length-append, length-map}
 use Rattle.base_laws.proofs.Lists.{All-append, All-push, rest_at, All-left, All-right}
 use Rattle.iolb_model.specs.Form.{AffineForm}
-use Rattle.iolb_model.specs.Path.{PathStep, bounded}
 use Rattle.iolb_model.specs.Program.{Direction, AffineProgram}
 use Rattle.iolb_model.specs.declared.limits.TheConstants.{NUMBER_SIZE}
 use Rattle.reuse_paths.proofs.EntryClaims.{all-widened-small}
 use Rattle.affine_form.specs.Form.{variables, IsSmall, IsSmallForm}
-use Rattle.affine_form.specs.Rows.{BoundsFit, IsSmallOver, step_of, variable, widened}
+use Rattle.affine_form.specs.Rows.{BoundsFit, IsSmallOver, variable, widened}
 use Rattle.flow_deps.specs.Candidates.{direction_at, first_bound}
 use Rattle.flow_deps.proofs.SmallForms.{variable-small}
 use Rattle.certificate_fit.specs.Limits.{AreSmall}
@@ -31,16 +30,16 @@ narrowed-all vars (f ∷ forms) h = (narrowed-small vars f h.0, narrowed-all var
 
 module _ (program : AffineProgram) where
   -- where the numbers are small behind a step, they are before it
-  into-small : (named : Bool) (direction : Direction) (far : NestSoFar) (step : PathStep) → IsSmallNest (into_loop program named direction far step) → IsSmallNest far
-  into-small true direction far (bounded lower upper) h = (
-    All-left (λ (b : AffineForm × AffineForm). IsSmallForm NUMBER_SIZE b.0 × IsSmallForm NUMBER_SIZE b.1) far.nest ((at_values program far lower, at_values program far upper) ∷ []) h.0,
+  into-small : (named : Bool) (direction : Direction) (far : NestSoFar) (step : AffineForm × AffineForm) → IsSmallNest (into_loop program named direction far step) → IsSmallNest far
+  into-small true direction far step h = (
+    All-left (λ (b : AffineForm × AffineForm). IsSmallForm NUMBER_SIZE b.0 × IsSmallForm NUMBER_SIZE b.1) far.nest ((at_values program far step.0, at_values program far step.1) ∷ []) h.0,
     narrowed-all (width program far + 1) far.values
         (All-left (IsSmallForm NUMBER_SIZE) (map (widened (width program far + 1)) far.values) (variable (width program far + 1) (width program far) ∷ []) h.1),
   )
-  into-small false direction far (bounded lower upper) h =
-      (h.0, All-left (IsSmallForm NUMBER_SIZE) far.values (at_values program far (first_bound direction (bounded lower upper)) ∷ []) h.1)
+  into-small false direction far step h =
+      (h.0, All-left (IsSmallForm NUMBER_SIZE) far.values (at_values program far (first_bound direction step) ∷ []) h.1)
 
-  pub along-small : (statement : ℕ) (loops : List ℕ) (number : ℕ) (path : List PathStep) (far : NestSoFar) → IsSmallNest (nest_along program statement loops number path far) → IsSmallNest far
+  pub along-small : (statement : ℕ) (loops : List ℕ) (number : ℕ) (path : List (AffineForm × AffineForm)) (far : NestSoFar) → IsSmallNest (nest_along program statement loops number path far) → IsSmallNest far
   along-small statement loops number [] far h = h
   along-small statement loops number (step ∷ path) far h =
       let direction : Direction = direction_at program statement number in
@@ -57,14 +56,14 @@ module _ (program : AffineProgram) where
   value-of-first far lower h = (All-right (IsSmallForm NUMBER_SIZE) far.values (at_values program far lower ∷ []) h.1).0
 
   -- one step of the way
-  pub along-next : (statement : ℕ) (loops : List ℕ) (path : List PathStep) (k : ℕ) (pair : AffineForm × AffineForm) (far : NestSoFar) (named : Bool) (direction : Direction) (next : NestSoFar)
-      → k < length path → ((none : PathStep) → get_or path k none ≡ step_of pair) → named ≡ is_named loops k → direction ≡ direction_at program statement k
-      → next ≡ into_loop program named direction far (step_of pair)
+  pub along-next : (statement : ℕ) (loops : List ℕ) (path : List (AffineForm × AffineForm)) (k : ℕ) (pair : AffineForm × AffineForm) (far : NestSoFar) (named : Bool) (direction : Direction) (next : NestSoFar)
+      → k < length path → ((none : AffineForm × AffineForm) → get_or path k none ≡ pair) → named ≡ is_named loops k → direction ≡ direction_at program statement k
+      → next ≡ into_loop program named direction far pair
       → nest_along program statement loops k (drop k path) far ≡ nest_along program statement loops (k + 1) (drop (k + 1) path) next
   along-next statement loops path k pair far named direction next below is test goes pushed =
-      ap (λ (p : List PathStep). nest_along program statement loops k p far) (rest_at path k (step_of pair) below (sym (is (step_of pair))))
-      ∙ ap (λ (b : Bool). nest_along program statement loops (k + 1) (drop (k + 1) path) (into_loop program b (direction_at program statement k) far (step_of pair))) (sym test)
-      ∙ ap (λ (d : Direction). nest_along program statement loops (k + 1) (drop (k + 1) path) (into_loop program named d far (step_of pair))) (sym goes)
+      ap (λ (p : List (AffineForm × AffineForm)). nest_along program statement loops k p far) (rest_at path k pair below (sym (is pair)))
+      ∙ ap (λ (b : Bool). nest_along program statement loops (k + 1) (drop (k + 1) path) (into_loop program b (direction_at program statement k) far pair)) (sym test)
+      ∙ ap (λ (d : Direction). nest_along program statement loops (k + 1) (drop (k + 1) path) (into_loop program named d far pair)) (sym goes)
       ∙ ap (nest_along program statement loops (k + 1) (drop (k + 1) path)) (sym pushed)
 
   -- ---- what fits
@@ -116,13 +115,13 @@ module _ (program : AffineProgram) where
 
   -- ---- there are as many variables as loops that are named
 
-  into-many : (named : Bool) (direction : Direction) (far : NestSoFar) (step : PathStep) → length (into_loop program named direction far step).nest ≡ length far.nest + (if named then 1 else 0)
-  into-many true direction far (bounded lower upper) = length-append far.nest ((at_values program far lower, at_values program far upper) ∷ [])
-  into-many false direction far (bounded lower upper) = none (length far.nest) where
+  into-many : (named : Bool) (direction : Direction) (far : NestSoFar) (step : AffineForm × AffineForm) → length (into_loop program named direction far step).nest ≡ length far.nest + (if named then 1 else 0)
+  into-many true direction far step = length-append far.nest ((at_values program far step.0, at_values program far step.1) ∷ [])
+  into-many false direction far step = none (length far.nest) where
     none : (n : ℕ) → n ≡ n + 0
     none n = omega arith
 
-  pub along-many : (statement : ℕ) (loops : List ℕ) (number : ℕ) (path : List PathStep) (far : NestSoFar)
+  pub along-many : (statement : ℕ) (loops : List ℕ) (number : ℕ) (path : List (AffineForm × AffineForm)) (far : NestSoFar)
       → length (nest_along program statement loops number path far).nest ≡ length far.nest + length (filter (is_named loops) (range_with_len number (length path)))
   along-many statement loops number [] far = none (length far.nest) where
     none : (n : ℕ) → n ≡ n + 0

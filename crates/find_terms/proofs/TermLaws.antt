@@ -3,7 +3,7 @@ use Rattle.std.proofs.Common.{◌≡◌, sym, ◌∙◌, ap, subst, ℕ, ◌+◌
 use Rattle.std.specs.Prelude.{Option, Some, None}
 use Rattle.iolb_model.specs.Program.{AffineProgram}
 use Rattle.iolb_model.specs.declared.limits.TheConstants.{NEST_VARIABLES}
-use Rattle.affine_program.specs.Domain.{path_of, depth_of}
+use Rattle.affine_program.specs.Domain.{bounds_at, depth_of}
 use Rattle.flow_deps.specs.declared.wanted.Wanted.TheVariants.{Short}
 use Rattle.dep_quast.specs.Context.{ReadOf, reference_of, variables_at}
 use Rattle.dep_quast.specs.Tree.{SelectionTree}
@@ -41,7 +41,7 @@ module _ (program : AffineProgram) (reader : ReadOf) where
     bounds = far.bounds;
     point = far.many;
     forms = far.values;
-    rows = sym (along-many program reader.statement loops 0 (path_of program reader.statement) (record { nest = []; values = [] }) ∙ none (length (named_loops program reader loops)));
+    rows = sym (along-many program reader.statement loops 0 (bounds_at program reader.statement) (record { nest = []; values = [] }) ∙ none (length (named_loops program reader loops)));
     columns = λ some. sym (named-many program reader loops named);
     some_scale = omega arith;
     scale = omega arith;

@@ -2,12 +2,11 @@
 use Rattle.std.specs.Prelude.{◌≡◌, ◌⊎◌, ⊤, ℕ, ◌+◌, ◌<◌, ◌≤◌, nat_eq, Bool, if◌then◌else◌, ℤ, pos, List, [], ◌∷◌, ◌++◌, length, map, filter, flat_map, Option, Some, None, Contains}
 use Rattle.std.specs.List.{AllByRecursion, IsDistinct, list_any, range_with_len}
 use Rattle.iolb_model.specs.Form.{AffineForm}
-use Rattle.iolb_model.specs.Path.{PathStep, bounded}
 use Rattle.iolb_model.specs.Program.{Direction, AffineProgram}
 use Rattle.affine_form.specs.Matrix.{IntegerMatrix}
 use Rattle.affine_form.specs.Rows.{widened, variable}
 use Rattle.affine_form.specs.Substitution.{substitution}
-use Rattle.affine_program.specs.Domain.{path_of, depth_of}
+use Rattle.affine_program.specs.Domain.{bounds_at, depth_of}
 use Rattle.flow_deps.specs.declared.wanted.Wanted.TheVariants.{Short}
 use Rattle.dep_quast.specs.Context.{ReadOf, reference_of, parameter_point}
 use Rattle.dep_quast.specs.Tree.{SelectionTree}
@@ -62,21 +61,21 @@ with_variable program far lower upper = record {
 abbrev pub with_first : AffineProgram → NestSoFar → AffineForm → NestSoFar
 with_first program far first = record { nest = far.nest; values = far.values ++ at_values program far first ∷ [] }
 
--- into a loop that goes so
-abbrev pub into_loop : AffineProgram → Bool → Direction → NestSoFar → PathStep → NestSoFar
-into_loop program named direction far (bounded lower upper) =
-    if named then with_variable program far lower upper else with_first program far (first_bound direction (bounded lower upper))
+-- into a loop of these bounds that goes so
+abbrev pub into_loop : AffineProgram → Bool → Direction → NestSoFar → AffineForm × AffineForm → NestSoFar
+into_loop program named direction far bounds =
+    if named then with_variable program far bounds.0 bounds.1 else with_first program far (first_bound direction bounds)
 
--- along the rest of the way to a statement, whose first loop has this number
-abbrev pub nest_along : AffineProgram → ℕ → List ℕ → ℕ → List PathStep → NestSoFar → NestSoFar
+-- along the rest of the loops around a statement, of which the first has this number
+abbrev pub nest_along : AffineProgram → ℕ → List ℕ → ℕ → List (AffineForm × AffineForm) → NestSoFar → NestSoFar
 nest_along program statement loops number [] far = far
-nest_along program statement loops number (step ∷ path) far =
-    nest_along program statement loops (number + 1) path (into_loop program (is_named loops number) (direction_at program statement number) far step)
+nest_along program statement loops number (bounds ∷ others) far =
+    nest_along program statement loops (number + 1) others (into_loop program (is_named loops number) (direction_at program statement number) far bounds)
 
 -- The nest of the loops that are named, outermost first, and the loop values: a loop that is named has its variable, each
 -- other its first value, at the values before it.
 abbrev pub named_nest : AffineProgram → ReadOf → List ℕ → NestSoFar
-named_nest program reader loops = nest_along program reader.statement loops 0 (path_of program reader.statement) (record { nest = []; values = [] })
+named_nest program reader loops = nest_along program reader.statement loops 0 (bounds_at program reader.statement) (record { nest = []; values = [] })
 
 -- ---- the matrix
 

@@ -2,7 +2,7 @@
 
 ghost use Rattle.std.specs.Prelude.{◌≡◌, ◌<◌, ◌+◌, length, IfOk};
 ghost use Rattle.affine_form.specs.Form.{variables};
-ghost use Rattle.affine_form.specs.Rows.{direction_of, IsSmallOver, step_of};
+ghost use Rattle.affine_form.specs.Rows.{direction_of, IsSmallOver};
 ghost use Rattle.affine_program.specs.Domain.{depth_of};
 ghost use Rattle.affine_program.specs.Parts.{meaning};
 ghost use Rattle.dep_quast.specs.Truth.{ReadFits};
@@ -102,7 +102,7 @@ fn into_loop(
     requires far { FarFits (meaning program.now) (length far.values.items) (so_far far) }
     requires lower { IsSmallOver (length program.now.params + length far.values.items) bounds.now.0 }
     requires upper { IsSmallOver (length program.now.params + length far.values.items) bounds.now.1 }
-    ensures { IfOk result (λ found. FindsNest (meaning program.now) (length far.values.items + 1) (into_loop (meaning program.now) named (direction_of down) (so_far far) (step_of bounds.now)) found) }
+    ensures { IfOk result (λ found. FindsNest (meaning program.now) (length far.values.items + 1) (into_loop (meaning program.now) named (direction_of down) (so_far far) bounds.now) found) }
 {
     if named {
         with_variable(alloc, program, far, bounds)

@@ -3,12 +3,10 @@ use Rattle.std.proofs.Common.{◌≡◌, sym, ◌∙◌, ap, subst, ℕ, zero, s
 use Rattle.std.specs.Prelude.{if◌then◌else◌, Option, Some, None, Vec}
 use Rattle.std.specs.Global.{Global}
 use Rattle.std.specs.List.{AllByRecursion}
-use Rattle.std.proofs.lemmas.List.{get_or-map}
 use Rattle.base_laws.proofs.Lists.{there, rest_at, All-left, All-right}
 use Rattle.iolb_model.specs.Form.{AffineForm}
-use Rattle.iolb_model.specs.Path.{PathStep}
 use Rattle.iolb_model.specs.Program.{AffineProgram}
-use Rattle.affine_form.specs.Rows.{IsSmallOver, BoundsFit, step_of}
+use Rattle.affine_form.specs.Rows.{IsSmallOver, BoundsFit}
 use Rattle.affine_form.specs.declared.form.Form.{Form}
 use Rattle.dep_quast.specs.Context.{ReadOf, variables_at}
 use Rattle.flow_deps.specs.Candidates.{direction_at, last_bound, subscript_for, is_name, loop_value, values_along, point_from, FindsPoint}
@@ -50,38 +48,38 @@ bound-fits many (b ∷ bounds) (suc k) pair fit below is =
       moved : suc many + k ≡ many + suc k
       moved = omega arith
 
--- a step of a way that is the way of bounds
-pub step-is : (bounds : List (AffineForm × AffineForm)) (path : List PathStep) (k : ℕ) (pair : AffineForm × AffineForm) (none : PathStep) → path ≡ map step_of bounds → k < length bounds
-    → pair ≡ get_or bounds k pair → get_or path k none ≡ step_of pair
-step-is bounds path k pair none e below is =
-    ap (λ (p : List PathStep). get_or p k none) e ∙ get_or-map step_of bounds k pair none below ∙ ap step_of (sym is)
+-- a member of a list whatever stands past its end
+pub any-past : {X : Type 0} (xs : List X) (k : ℕ) (x past : X) → k < length xs → x ≡ get_or xs k x → get_or xs k past ≡ x
+any-past [] k x past below is = absurd (omega arith)
+any-past (y ∷ xs) zero x past below is = sym is
+any-past (y ∷ xs) (suc k) x past below is = any-past xs k x past (omega arith) is
 
 -- ---- points
 
 module _ (program : AffineProgram) (reader : ReadOf) (writer : ℕ) where
-  -- the value of the next loop, and the rest of the way
-  pub along-next : (path : List PathStep) (k : ℕ) (bound : AffineForm) (values more : List AffineForm) (value : AffineForm)
-      → k < length path → length values ≡ k → ((none : PathStep) → bound ≡ last_bound (direction_at program writer k) (get_or path k none))
+  -- the value of the next loop, and the loops behind it
+  pub along-next : (loops : List (AffineForm × AffineForm)) (k : ℕ) (bound : AffineForm) (values more : List AffineForm) (value : AffineForm)
+      → k < length loops → length values ≡ k → ((none : AffineForm × AffineForm) → bound ≡ last_bound (direction_at program writer k) (get_or loops k none))
       → value ≡ loop_value program reader writer bound values → more ≡ values ++ value ∷ []
-      → values_along program reader writer (drop k path) values ≡ values_along program reader writer (drop (k + 1) path) more
-  along-next path k bound values more value below many is is_value pushed =
-      let step = there path k below in
-      let last : bound ≡ last_bound (direction_at program writer (length values)) step.0 =
-      is step.0 ∙ ap (λ (n : ℕ). last_bound (direction_at program writer n) (get_or path k step.0)) (sym many) ∙ ap (last_bound (direction_at program writer (length values))) (sym step.1) in
-      ap (λ (p : List PathStep). values_along program reader writer p values) (rest_at path k step.0 below step.1)
-      ∙ ap (λ (v : AffineForm). values_along program reader writer (drop (k + 1) path) (values ++ v ∷ [])) (ap (λ (b : AffineForm). loop_value program reader writer b values) (sym last) ∙ sym is_value)
-      ∙ ap (λ (vs : List AffineForm). values_along program reader writer (drop (k + 1) path) vs) (sym pushed)
+      → values_along program reader writer (drop k loops) values ≡ values_along program reader writer (drop (k + 1) loops) more
+  along-next loops k bound values more value below many is is_value pushed =
+      let here = there loops k below in
+      let last : bound ≡ last_bound (direction_at program writer (length values)) here.0 =
+      is here.0 ∙ ap (λ (n : ℕ). last_bound (direction_at program writer n) (get_or loops k here.0)) (sym many) ∙ ap (last_bound (direction_at program writer (length values))) (sym here.1) in
+      ap (λ (rest : List (AffineForm × AffineForm)). values_along program reader writer rest values) (rest_at loops k here.0 below here.1)
+      ∙ ap (λ (v : AffineForm). values_along program reader writer (drop (k + 1) loops) (values ++ v ∷ [])) (ap (λ (b : AffineForm). loop_value program reader writer b values) (sym last) ∙ sym is_value)
+      ∙ ap (λ (vs : List AffineForm). values_along program reader writer (drop (k + 1) loops) vs) (sym pushed)
 
-  -- what holds of all values along a way holds of the first ones
-  pub along-first : (P : AffineForm → Type 0) (path : List PathStep) (values : List AffineForm) → AllByRecursion P (values_along program reader writer path values) → AllByRecursion P values
+  -- what holds of all values holds of the first ones
+  pub along-first : (P : AffineForm → Type 0) (loops : List (AffineForm × AffineForm)) (values : List AffineForm) → AllByRecursion P (values_along program reader writer loops values) → AllByRecursion P values
   along-first P [] values h = h
-  along-first P (step ∷ path) values h =
-      let value : AffineForm = loop_value program reader writer (last_bound (direction_at program writer (length values)) step) values in
-      All-left P values (value ∷ []) (along-first P path (values ++ value ∷ []) h)
+  along-first P (bounds ∷ loops) values h =
+      let value : AffineForm = loop_value program reader writer (last_bound (direction_at program writer (length values)) bounds) values in
+      All-left P values (value ∷ []) (along-first P loops (values ++ value ∷ []) h)
 
-  pub along-last : (P : AffineForm → Type 0) (path : List PathStep) (values : List AffineForm) (value : AffineForm)
-      → AllByRecursion P (values_along program reader writer path (values ++ value ∷ [])) → P value
-  along-last P path values value h = (All-right P values (value ∷ []) (along-first P path (values ++ value ∷ []) h)).0
+  pub along-last : (P : AffineForm → Type 0) (loops : List (AffineForm × AffineForm)) (values : List AffineForm) (value : AffineForm)
+      → AllByRecursion P (values_along program reader writer loops (values ++ value ∷ [])) → P value
+  along-last P loops values value h = (All-right P values (value ∷ []) (along-first P loops (values ++ value ∷ []) h)).0
 
 -- a test isn't both
 pub not-both : (b : Bool) → b ≡ false → b ≡ true → ⊥

@@ -1,14 +1,15 @@
 -- Trees that stand: leaves, and tests over trees.
 use Rattle.std.specs.Prelude.{codes}
-use Rattle.std.proofs.Common.{refl, ℕ, suc, ◌+◌, ◌<◌, ◌≤◌, List, [], ◌∷◌, ◌++◌, length, map, arith}
+use Rattle.std.proofs.Common.{refl, ap, ℕ, suc, ◌+◌, ◌<◌, ◌≤◌, List, [], ◌∷◌, ◌++◌, length, map, arith}
 use Rattle.std.proofs.lemmas.List.{length-append, length-map}
+use Rattle.base_laws.proofs.Lists.{there}
 use Rattle.iolb_model.specs.Form.{AffineForm}
 use Rattle.iolb_model.specs.Program.{AffineProgram}
-use Rattle.iolb_model.specs.declared.limits.TheConstants.{TREE_TESTS}
+use Rattle.iolb_model.specs.declared.limits.TheConstants.{GUARDS, TREE_TESTS}
 use Rattle.affine_form.specs.Multipliers.{FarkasMultipliers}
 use Rattle.affine_form.specs.Rows.{IsSmallOver, widened, variables_from}
 use Rattle.affine_form.proofs.RowLemmas.{length-variables}
-use Rattle.affine_program.specs.Domain.{depth_of, domain_of}
+use Rattle.affine_program.specs.Domain.{depth_of, domain_of, guards_at}
 use Rattle.affine_program.specs.Parts.{ProgramParts, IsProgram, meaning}
 use Rattle.claims.proofs.Laws.{AllHold-append}
 use Rattle.claims.specs.declared.place.Step.TheVariants.{Key}
@@ -20,7 +21,13 @@ use Rattle.dep_quast.proofs.Fits.{depth-few}
 use Rattle.flow_deps.specs.Answers.{IsAnswered, pointless}
 use Rattle.flow_deps.specs.Shown.{IsLeafUnder, Stands}
 use Rattle.flow_deps.proofs.AnswerLaws.{answer-names}
+use Rattle.affine_program.proofs.Bounds.{guards-are, limits-at}
 use Rattle.affine_program.proofs.Domains.{length-domain_rows}
+
+guards-few : (parts : ProgramParts) → IsProgram parts → (statement : ℕ) → statement < length parts.statements → length (guards_at (meaning parts) statement) ≤ GUARDS
+guards-few parts is statement below =
+    let at = there parts.statements statement below in
+    omega (arith, ap (λ (rows : List AffineForm). length rows) (guards-are parts statement at.0 is below at.1), (limits-at parts statement at.0 is below at.1).guards)
 
 -- the rows of a leaf are few, where not too many tests are nested
 pub context-few : (parts : ProgramParts) (is : IsProgram parts) (reader : ReadOf) (tests : List AffineForm) → reader.statement < length parts.statements → length tests ≤ TREE_TESTS
@@ -40,6 +47,7 @@ context-few parts is reader tests below few =
       length-domain_rows program reader.statement vars (variables_from vars 0 (length program.parameters)) (variables_from vars (length program.parameters) (depth_of program reader.statement))
           (length-variables vars (length program.parameters) (depth_of program reader.statement)),
       depth-few parts is reader.statement below,
+      guards-few parts is reader.statement below,
     )
 
 -- a leaf that claims nothing stands

@@ -6,13 +6,12 @@ use Rattle.std.specs.List.{AllByRecursion, range_with_len}
 use Rattle.std.specs.Option.{unwrap_or}
 use Rattle.std.specs.Ordering.{int_eq}
 use Rattle.iolb_model.specs.Form.{AffineForm}
-use Rattle.iolb_model.specs.Path.{PathStep, bounded}
 use Rattle.iolb_model.specs.Program.{Direction, upward, downward, AffineProgram, statement_at}
 use Rattle.iolb_model.specs.Order.{common_loops}
 use Rattle.affine_form.specs.Rows.{widened, variable, variables_from, difference, earlier_row, IsSmallOver}
 use Rattle.affine_form.specs.declared.form.Form.{Form}
 use Rattle.affine_form.specs.Substitution.{substitution}
-use Rattle.affine_program.specs.Domain.{path_of, depth_of}
+use Rattle.affine_program.specs.Domain.{bounds_at, depth_of}
 use Rattle.dep_quast.specs.Context.{ReadOf, reference_of, variables_at, parameter_point}
 use Rattle.dep_quast.specs.Levels.{writers, IsWriter}
 use Rattle.flow_deps.specs.Shapes.{Shape, no_write, last_write, split}
@@ -26,14 +25,14 @@ abbrev pub direction_at : AffineProgram → ℕ → ℕ → Direction
 direction_at program statement loop = slice_index_or (common_loops program statement statement) loop upward
 
 -- the bound at which a loop begins
-abbrev pub first_bound : Direction → PathStep → AffineForm
-first_bound upward (bounded lower upper) = lower
-first_bound downward (bounded lower upper) = upper
+abbrev pub first_bound : Direction → AffineForm × AffineForm → AffineForm
+first_bound upward bounds = bounds.0
+first_bound downward bounds = bounds.1
 
 -- and that at which it ends
-abbrev pub last_bound : Direction → PathStep → AffineForm
-last_bound upward (bounded lower upper) = upper
-last_bound downward (bounded lower upper) = lower
+abbrev pub last_bound : Direction → AffineForm × AffineForm → AffineForm
+last_bound upward bounds = bounds.1
+last_bound downward bounds = bounds.0
 
 -- what a loop's value one turn before is more than now
 abbrev pub step_back : Direction → ℤ
@@ -75,16 +74,16 @@ loop_value program reader writer bound before =
     unwrap_or (subscript_for (length program.parameters + length before) (statement_at program writer).writes.subscripts (reference_of program reader).subscripts)
     (last_value program reader bound before)
 
--- the values of a writer's loops, from those that are given on along the rest of the way
-abbrev pub values_along : AffineProgram → ReadOf → ℕ → List PathStep → List AffineForm → List AffineForm
+-- the values of a writer's loops, from those that are given on along the bounds of the other loops
+abbrev pub values_along : AffineProgram → ReadOf → ℕ → List (AffineForm × AffineForm) → List AffineForm → List AffineForm
 values_along program reader writer [] before = before
-values_along program reader writer (step ∷ path) before =
-    let bound = last_bound (direction_at program writer (length before)) step in
-    values_along program reader writer path (before ++ loop_value program reader writer bound before ∷ [])
+values_along program reader writer (bounds ∷ loops) before =
+    let bound = last_bound (direction_at program writer (length before)) bounds in
+    values_along program reader writer loops (before ++ loop_value program reader writer bound before ∷ [])
 
 -- the point of a writer whose first loops have the values that are given
 abbrev pub point_from : AffineProgram → ReadOf → ℕ → List AffineForm → List AffineForm
-point_from program reader writer given = values_along program reader writer (drop (length given) (path_of program writer)) given
+point_from program reader writer given = values_along program reader writer (drop (length given) (bounds_at program writer)) given
 
 -- what a search for the point of a writer finds: its values, all small forms over the reader's variables; or nothing, and
 -- then some isn't
@@ -112,7 +111,7 @@ turn_before program reader loop =
 abbrev pub begin_bound : AffineProgram → ReadOf → ℕ → AffineForm
 begin_bound program reader loop =
     first_bound (direction_at program reader.statement loop)
-    (slice_index_or (path_of program reader.statement) loop (bounded (record { coefficients = []; constant = pos 0 }) (record { coefficients = []; constant = pos 0 })))
+    (slice_index_or (bounds_at program reader.statement) loop (record { coefficients = []; constant = pos 0 }, record { coefficients = []; constant = pos 0 }))
 
 -- at least 0 where a loop of the reader isn't in its first turn
 abbrev pub later_turn : AffineProgram → ReadOf → ℕ → AffineForm

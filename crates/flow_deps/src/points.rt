@@ -2,10 +2,10 @@
 
 ghost use Rattle.std.specs.Prelude.{◌≡◌, ◌≤◌, ◌<◌, ◌+◌, length, slice_index_or, IfOk};
 ghost use Rattle.std.specs.List.{AllByRecursion};
+ghost use Rattle.iolb_model.specs.Form.{AffineForm};
 ghost use Rattle.affine_form.specs.Form.{variables};
-ghost use Rattle.iolb_model.specs.Path.{PathStep};
-ghost use Rattle.affine_form.specs.Rows.{IsSmallOver, direction_of, step_of};
-ghost use Rattle.affine_program.specs.Domain.{path_of, depth_of};
+ghost use Rattle.affine_form.specs.Rows.{IsSmallOver, direction_of};
+ghost use Rattle.affine_program.specs.Domain.{bounds_at, depth_of};
 ghost use Rattle.affine_program.specs.Parts.{meaning};
 ghost use Rattle.dep_quast.specs.Context.{variables_at};
 ghost use Rattle.dep_quast.specs.Truth.{ReadFits};
@@ -78,7 +78,7 @@ pub fn bounds_at(program: &Program, statement: u16, level: usize) -> &(Form, For
     requires level_in { level < depth_of (meaning program.now) statement }
     ensures lower { IsSmallOver (length program.now.params + level) result.now.0 }
     ensures upper { IsSmallOver (length program.now.params + level) result.now.1 }
-    ensures step { (none : PathStep) → slice_index_or (path_of (meaning program.now) statement) level none ≡ step_of result.now }
+    ensures bounds { (none : AffineForm × AffineForm) → slice_index_or (bounds_at (meaning program.now) statement) level none ≡ result.now }
 {
     let _params = program.params();
     &program.statements()[usize::from(statement)]
@@ -102,7 +102,7 @@ pub(crate) fn last_bound(program: &Program, statement: u16, level: usize) -> &Fo
     requires there { statement < length program.now.statements }
     requires level_in { level < depth_of (meaning program.now) statement }
     ensures over { IsSmallOver (length program.now.params + level) result.now }
-    ensures bound { (none : PathStep) → result.now ≡ last_bound (direction_at (meaning program.now) statement level) (slice_index_or (path_of (meaning program.now) statement) level none) }
+    ensures bound { (none : AffineForm × AffineForm) → result.now ≡ last_bound (direction_at (meaning program.now) statement level) (slice_index_or (bounds_at (meaning program.now) statement) level none) }
 {
     let bounds = bounds_at(program, statement, level);
     if runs_down(program, statement, level) {

@@ -15,11 +15,11 @@ ghost use Rattle.iolb_model.specs.declared.limits.TheConstants.{VARIABLES};
 
 use crate::origins::Origin;
 use crate::planted::{first_values, turn_before};
-use crate::points::{last_bound, last_value};
-use affine_form::{Form, Memory};
+use crate::points::{last_bound, last_value, runs_down};
+use affine_form::{Form, Memory, difference};
 use affine_program::{Program, is_small_form};
 use claims::lists::followed_by;
-use dep_quast::point_rows::written_rows;
+use dep_quast::point_rows::{domain_rows, written_rows};
 use dep_quast::reader::{Reader, depth, variables, written};
 use std::alloc::Global;
 
@@ -101,8 +101,63 @@ fn solved_loop(
     Ok(None)
 }
 
+/// What a row says of a variable that has coefficient 1 or -1 in it, where 0 stands for the variable: what it is at least, or
+/// at most. None where that is too large.
+fn limit_of(alloc: Global, vars: usize, sign: i128, row: &Form) -> Result<Option<Form>, Memory>
+    requires few { vars ≤ VARIABLES }
+    requires over { variables row.now ≡ vars }
+    ensures { IfOk result (λ found. IfSome found (λ value. variables value ≡ vars)) }
+{
+    if !is_small_form(row) {
+        return Ok(None);
+    }
+    if sign < 0 {
+        return Ok(Some(row.try_clone(alloc)?));
+    }
+    let zero = Form::new(Vec::new(alloc), 0);
+    Ok(Some(difference(alloc, vars, &zero, row, 0)?))
+}
+
+/// The last value of a writer's next loop by the first guard that says what it is at most, or at least where the loop runs
+/// downward, by the loops around it.
+fn guarded_last(
+    alloc: Global,
+    program: &Program,
+    reader: Reader,
+    writer: u16,
+    before: &[Form],
+) -> Result<Option<Form>, Memory>
+    requires read { ReadFits (meaning program.now) (read_of reader) }
+    requires writer { writer < length program.now.statements }
+    requires few { length before.now < depth_of (meaning program.now) writer }
+    requires before { AllByRecursion (IsSmallOver (variables_at (meaning program.now) (read_of reader))) before.now }
+    ensures { IfOk result (λ found. IfSome found (λ value. variables value ≡ variables_at (meaning program.now) (read_of reader))) }
+{
+    let vars = variables(program, reader);
+    let place = program.params().len() + before.len();
+    let wanted = if runs_down(program, writer, before.len()) {
+        1
+    } else {
+        -1
+    };
+    let values = padded(alloc, program, reader, writer, before)?;
+    let rows = domain_rows(alloc, program, vars, writer, values.as_slice())?;
+    let guards = program.statements()[usize::from(writer)].guards.as_slice();
+    let first = rows.len().saturating_sub(guards.len());
+    for number in first..rows.len() {
+        let sign = match guards.get(number - first) {
+            Some(guard) => sign_at(guard, place),
+            None => 0,
+        };
+        if sign == wanted {
+            return limit_of(alloc, vars, sign, &rows.as_slice()[number]);
+        }
+    }
+    Ok(None)
+}
+
 /// The value of an origin's next loop: solved where it can be; else one turn before the reader's in the loop behind the
-/// level; else its last value.
+/// level; else its last value, by a guard or by its bound.
 fn next_value(
     alloc: Global,
     program: &Program,
@@ -124,6 +179,9 @@ fn next_value(
     let common = program.common(origin.writer, reader.statement);
     if level < common && before.len() == level {
         return turn_before(alloc, program, reader, level);
+    }
+    if let Some(value) = guarded_last(alloc, program, reader, origin.writer, before)? {
+        return Ok(value);
     }
     let bound = last_bound(program, origin.writer, before.len());
     last_value(alloc, program, reader, bound, before)

@@ -13,9 +13,9 @@ fault_texts =
     ∷ codes "this loop has the name of a loop around it, of a parameter or of an array"
     ∷ codes "this array had another number of subscripts before"
     ∷ codes "more than 6 loops are nested, or more than 64 brackets are open"
-    ∷ codes "this is one too many: there may be 6 parameters, 32 assumptions, 32 statements, 32 reads in a statement, 128 arrays, 4 subscripts, and 64 bytes in a name"
+    ∷ codes "this is one too many: there may be 6 parameters, 32 assumptions, 32 statements, 32 reads in a statement, 128 arrays, 4 subscripts, 16 comparisons in the `if`s around a statement, of which `==` is two, and 64 bytes in a name"
     ∷ codes "a number here, or a coefficient of this expression, is of size 2^20 or more"
-    ∷ codes "an `if` isn't read"
+    ∷ codes "this is an `else`, or an `if` whose condition isn't affine"
     ∷ []
 
 -- what to write instead, for the faults from 1 on
@@ -23,7 +23,7 @@ abbrev pub fault_helps : List (List ℕ)
 fault_helps =
     codes "put the loops between these two lines, each alone on its line"
     ∷ codes "remove it, or close the comment"
-    ∷ codes "write loops `for (int i = LOWER; i < UPPER; i++)` or `for (int i = UPPER; i >= LOWER; i--)`, blocks, and assignments to cells, and nothing else"
+    ∷ codes "write loops `for (int i = LOWER; i < UPPER; i++)` or `for (int i = UPPER; i >= LOWER; i--)`, `if` with affine comparisons, blocks, and assignments to cells, and nothing else"
     ∷ codes "write whole numbers, parameters and loops around it, joined by `+`, `-`, and `*` by a number"
     ∷ codes "write `for (int i = FIRST; i < END; i++)` or `for (int i = FIRST; i >= LAST; i--)`, and use another form of `i` where the loop stepped otherwise"
     ∷ codes "rename it, or move it into the loop's body"
@@ -32,5 +32,5 @@ fault_helps =
     ∷ codes "split the nest"
     ∷ codes "split the program"
     ∷ codes "name the number as a parameter: the numbers of a text are of size below 1048576"
-    ∷ codes "split the loop where the condition changes, or bound the program in which the branch is always taken"
+    ∷ codes "write comparisons of affine expressions, joined by `&&`, and a second `if` with the opposite condition for an `else`"
     ∷ []

@@ -27,9 +27,9 @@ fn fault_wrong(number: u64) -> Option<&'static str>
         8 => "this array had another number of subscripts before",
         9 => "more than 6 loops are nested, or more than 64 brackets are open",
         10 =>
-            "this is one too many: there may be 6 parameters, 32 assumptions, 32 statements, 32 reads in a statement, 128 arrays, 4 subscripts, and 64 bytes in a name",
+            "this is one too many: there may be 6 parameters, 32 assumptions, 32 statements, 32 reads in a statement, 128 arrays, 4 subscripts, 16 comparisons in the `if`s around a statement, of which `==` is two, and 64 bytes in a name",
         11 => "a number here, or a coefficient of this expression, is of size 2^20 or more",
-        12 => "an `if` isn't read",
+        12 => "this is an `else`, or an `if` whose condition isn't affine",
         _ => return None,
     })
 }
@@ -43,7 +43,7 @@ fn fault_instead(number: u64) -> Option<&'static str>
         1 => "put the loops between these two lines, each alone on its line",
         2 => "remove it, or close the comment",
         3 =>
-            "write loops `for (int i = LOWER; i < UPPER; i++)` or `for (int i = UPPER; i >= LOWER; i--)`, blocks, and assignments to cells, and nothing else",
+            "write loops `for (int i = LOWER; i < UPPER; i++)` or `for (int i = UPPER; i >= LOWER; i--)`, `if` with affine comparisons, blocks, and assignments to cells, and nothing else",
         4 =>
             "write whole numbers, parameters and loops around it, joined by `+`, `-`, and `*` by a number",
         5 =>
@@ -55,7 +55,7 @@ fn fault_instead(number: u64) -> Option<&'static str>
         10 => "split the program",
         11 => "name the number as a parameter: the numbers of a text are of size below 1048576",
         12 =>
-            "split the loop where the condition changes, or bound the program in which the branch is always taken",
+            "write comparisons of affine expressions, joined by `&&`, and a second `if` with the opposite condition for an `else`",
         _ => return None,
     })
 }

@@ -37,7 +37,7 @@ use Rattle.certificate_fit.specs.WalkFit.{spot_fit}
 use Rattle.certificate_fit.proofs.ReadTrees.{open-many, bounds-fit, columns-many, tree-of, leaves-many}
 use Rattle.certificate_fit.proofs.WalkParts.{spot-fits, reach-fits}
 use Rattle.iolb_check.specs.Fit.{FrontTermFits}
-use Rattle.iolb_check.specs.FrontFit.{way_fit, back_fit, edge_fit, words_fit, outer_fit, reach_fit, source_way, read_fit, source_fit, inside_count, word_count, front_fit}
+use Rattle.iolb_check.specs.FrontFit.{way_fit, back_fit, edge_fit, words_fit, outer_fit, reach_fit, source_way, read_fit, source_fit, source_size, inside_count, word_count, front_fit}
 use Rattle.iolb_check.specs.Limits.{IsSmallFront}
 use Rattle.affine_program.proofs.Domains.{length-domain_rows}
 
@@ -49,7 +49,7 @@ module _ (P : AffineProgram) (term : WavefrontTerm) where
   spot-many : (spot : SpotForms) → SpotFits P (front_variables P term) spot → length (spot_goals P term spot) ≡ domain_size P spot.statement
   spot-many spot fits = length-domain_rows P spot.statement (front_variables P term) (parameter_point P (front_variables P term)) spot.point fits.point
 
-  source-many : (source : Option SpotForms) → SourceFits P (front_variables P term) source → length (source_goals P term source) ≡ 2 * source_depth P source
+  source-many : (source : Option SpotForms) → SourceFits P (front_variables P term) source → length (source_goals P term source) ≡ source_size P source
   source-many None fits = refl
   source-many (Some spot) fits = spot-many spot fits
 

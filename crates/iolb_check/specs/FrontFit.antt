@@ -6,7 +6,7 @@ use Rattle.iolb_model.specs.Program.{AffineProgram, statement_at}
 use Rattle.claims.specs.Claims.{Claim}
 use Rattle.claims.specs.declared.place.Step.{Step}
 use Rattle.claims.specs.declared.place.Step.TheVariants.{Key}
-use Rattle.affine_program.specs.Domain.{depth_of}
+use Rattle.affine_program.specs.Domain.{depth_of, domain_size}
 use Rattle.dep_quast.specs.Context.{reference_of}
 use Rattle.dep_quast.specs.Tree.{SelectionTree}
 use Rattle.reuse_paths.specs.ReachClaims.{setting_of}
@@ -48,9 +48,14 @@ edge_fit program trees place term =
     so_many (place ++ Key (codes "edge") ∷ []) (length term.edge) (length (leaf_names program trees (user_read term)))
     ∷ entries_fit (source_depth program term.source) [] (place ++ Key (codes "edge") ∷ []) term.edge
 
+-- how many rows say that the word's instance is in its domain
+abbrev pub source_size : AffineProgram → Option SpotForms → ℕ
+source_size program None = 0
+source_size program (Some spot) = domain_size program spot.statement
+
 -- how many multipliers show that the instances are in their domains
 abbrev pub inside_count : AffineProgram → WavefrontTerm → ℕ
-inside_count program term = 2 * (depth_of program term.user.statement + depth_of program term.vertex.statement + source_depth program term.source)
+inside_count program term = domain_size program term.user.statement + domain_size program term.vertex.statement + source_size program term.source
 
 -- how many numbers tell the words apart
 abbrev pub word_count : AffineProgram → WavefrontTerm → Option SpotForms → ℕ

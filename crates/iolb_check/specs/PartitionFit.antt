@@ -5,7 +5,7 @@ use Rattle.iolb_model.specs.Program.{AffineProgram}
 use Rattle.claims.specs.Claims.{Claim, numbered}
 use Rattle.claims.specs.declared.place.Step.{Step}
 use Rattle.claims.specs.declared.place.Step.TheVariants.{Key, Index}
-use Rattle.affine_program.specs.Domain.{depth_of}
+use Rattle.affine_program.specs.Domain.{depth_of, domain_size}
 use Rattle.dep_quast.specs.Tree.{SelectionTree}
 use Rattle.k_partition.specs.declared.term.Shape.{Shape}
 use Rattle.k_partition.specs.declared.term.Shape.TheVariants.{Each, Sum}
@@ -48,7 +48,7 @@ walks_fit program trees place term = apart_fit program trees place term ++ (cred
 abbrev pub coordinates_fit : AffineProgram → PartitionTerm → List Step → List Claim
 coordinates_fit program term place =
     let loops = depth_of program term.statement in
-    shown_fit (2 * loops) (place ++ Key (codes "inside") ∷ []) term.inside
+    shown_fit (domain_size program term.statement) (place ++ Key (codes "inside") ∷ []) term.inside
     ∷ matrix_fit loops loops (place ++ Key (codes "inverse") ∷ []) term.inverse ++ matrix_fit loops loops (place ++ Key (codes "matrix") ∷ []) term.matrix
 
 -- the nest, as of a credit: a variable for each loop

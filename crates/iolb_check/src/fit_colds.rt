@@ -11,7 +11,9 @@ ghost use Rattle.wavefront.specs.View.{term_of};
 
 use affine_form::Memory;
 use affine_program::Program;
-use certificate_fit::counts::{has_entry_each, loops_around, read_count, subscript_count};
+use certificate_fit::counts::{
+    domain_size, has_entry_each, loops_around, read_count, subscript_count,
+};
 use certificate_fit::entries::all_entries_fit;
 use certificate_fit::lists::{all_bounds_fit, all_forms_fit, all_sums_fit, misfit};
 use claims::{ObjectKey, Place, Refused, Step};
@@ -44,7 +46,7 @@ fn front_fits(
         statement: cold.statement,
         read: cold.read,
     };
-    if cold.inside.as_slice().len() != 2 * loops_around(program, cold.statement) {
+    if cold.inside.as_slice().len() != domain_size(program, cold.statement) {
         return Err(misfit(alloc, place, Step::Key(ObjectKey("inside"))));
     }
     let matrix = &cold.inverse.matrix;

@@ -1,11 +1,11 @@
 //! Whether wavefront terms fit.
 #![tactic(auto, using(claims::proofs::Found::in_a_row))]
 
-ghost use Rattle.std.specs.Prelude.{◌≡◌, ◌≤◌, ◌++◌, ◌∷◌, [], length, codes};
+ghost use Rattle.std.specs.Prelude.{◌≡◌, ◌+◌, ◌*◌, ◌≤◌, ◌++◌, ◌∷◌, [], length, codes};
 ghost use Rattle.affine_program.specs.Parts.{meaning};
-ghost use Rattle.iolb_model.specs.declared.limits.TheConstants.{LOOPS};
+ghost use Rattle.iolb_model.specs.declared.limits.TheConstants.{GUARDS, LOOPS};
 ghost use Rattle.claims.specs.declared.place.Step.TheVariants.{Key};
-ghost use Rattle.iolb_check.specs.FrontFit.{back_fit, count_fit, edge_fit, first_fit, front_fit, nest_fit, outer_fit, reach_fit, read_fit, source_fit, spots_fit, word_count as count_of_word, words_fit};
+ghost use Rattle.iolb_check.specs.FrontFit.{back_fit, count_fit, edge_fit, first_fit, front_fit, nest_fit, outer_fit, reach_fit, read_fit, source_fit, source_size as size_of_source, spots_fit, word_count as count_of_word, words_fit};
 ghost use Rattle.claims.specs.Claims.{Decides};
 ghost use Rattle.certificate_fit.specs.PartFit.{bounds_fit, polynomials_fit};
 ghost use Rattle.certificate_fit.specs.WalkFit.{spot_fit};
@@ -18,7 +18,7 @@ ghost use Rattle.wavefront.specs.View.{front_of};
 use crate::fit_colds::{columns_called, matrix_misfit};
 use affine_program::Program;
 use certificate_fit::counts::{
-    has_entry_each, is_twice, loops_around, read_count, subscript_count,
+    domain_size, has_entry_each, loops_around, read_count, subscript_count,
 };
 use certificate_fit::entries::all_entries_fit;
 use certificate_fit::lists::{all_bounds_fit, all_polynomials_fit, list_fits, misfit};
@@ -43,6 +43,17 @@ fn source_loops(program: &Program, front: &Wavefront) -> usize
 {
     match &front.source {
         Some(spot) => loops_around(program, spot.statement),
+        None => 0,
+    }
+}
+
+/// How many rows say that the word's instance is in its statement's domain: none where the word is an input.
+fn source_size(program: &Program, front: &Wavefront) -> usize
+    ensures size { result ≡ size_of_source (meaning program.now) (front_of front.now).source }
+    ensures few { result ≤ 2 * LOOPS + GUARDS }
+{
+    match &front.source {
+        Some(spot) => domain_size(program, spot.statement),
         None => 0,
     }
 }
@@ -118,10 +129,9 @@ fn all_words_fit(
 ) -> Result<(), Refused>
     ensures { Decides (words_fit (meaning program.now) place.now (front_of front.now)) result }
 {
-    let user = loops_around(program, front.user.statement);
-    let vertex = loops_around(program, front.vertex.statement);
-    let loops = user + vertex + source_loops(program, front);
-    if !is_twice(front.inside.as_slice().len(), loops) {
+    let user = domain_size(program, front.user.statement);
+    let vertex = domain_size(program, front.vertex.statement);
+    if front.inside.as_slice().len() != user + vertex + source_size(program, front) {
         return Err(misfit(alloc, place, Step::Key(ObjectKey("inside"))));
     }
     let matrix = &front.inverse.matrix;

@@ -13,7 +13,7 @@ use crate::family_targets::targets_of_families;
 use crate::fit_colds::columns_called;
 use affine_form::Memory;
 use affine_program::Program;
-use certificate_fit::counts::loops_around;
+use certificate_fit::counts::{domain_size, loops_around};
 use certificate_fit::credits::all_credits_fit;
 use certificate_fit::families::all_families_fit;
 use certificate_fit::lists::{all_bounds_fit, all_polynomials_fit, misfit};
@@ -121,7 +121,7 @@ fn coordinates_fit(
     ensures { Decides (coordinates_fit (meaning program.now) (partition_of term.now) place.now) result }
 {
     let loops = loops_around(program, term.statement);
-    if term.inside.as_slice().len() != 2 * loops {
+    if term.inside.as_slice().len() != domain_size(program, term.statement) {
         return Err(misfit(alloc, place, Step::Key(ObjectKey("inside"))));
     }
     let (inverse, matrix) = (&term.inverse, &term.matrix);

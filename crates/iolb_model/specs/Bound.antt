@@ -1,14 +1,10 @@
 -- Bounds on loads, and their values at parameter values and a number S of red pebbles.
-use Rattle.std.specs.Prelude.{◌≡◌, ℕ, zero, suc, ◌+◌, ◌-◌, ◌*◌, ◌/◌, ◌^◌, nat_lt, if◌then◌else◌, max, ℤ, pos, ◌≤ℤ◌, int_div, List, length, sum, map, fold}
-use Rattle.std.specs.List.{AllByRecursion}
-use Rattle.iolb_model.specs.Form.{AffineForm, form_value}
+use Rattle.std.specs.Prelude.{◌≡◌, ℕ, zero, suc, ◌+◌, ◌-◌, ◌*◌, ◌/◌, ◌^◌, nat_lt, if◌then◌else◌, max, ℤ, pos, int_div, List, length, sum, map, fold}
+use Rattle.iolb_model.specs.Form.{AffineForm}
+pub use Rattle.iolb_model.specs.Form.{AreMet}
 use Rattle.iolb_model.specs.Program.{AffineProgram}
 use Rattle.iolb_model.specs.Execution.{natural}
 use Rattle.iolb_model.specs.Polynomial.{Polynomial, numerator}
-
--- each of these forms is at least 0 at the parameter values
-abbrev pub AreMet : List AffineForm → List ℤ → Type 0
-AreMet assumptions values = AllByRecursion (λ row. pos 0 ≤ℤ form_value row values) assumptions
 
 -- admitted parameter values: one for each parameter, of either sign and any size, where each assumption is met
 pub record IsAdmitted (program : AffineProgram) (values : List ℤ) : Type 0 where

@@ -1,7 +1,7 @@
 -- The execution of a program at given parameter values: its statement instances in order. (Feautrier 1991.)
-use Rattle.std.specs.Prelude.{ℕ, zero, suc, ℤ, pos, negsuc, ◌+ℤ◌, ◌-ℤ◌, List, [], ◌∷◌, ◌++◌, map, flat_map}
-use Rattle.iolb_model.specs.Form.{form_value}
-use Rattle.iolb_model.specs.Program.{Direction, upward, downward, Item, assign, loop, Row, done, next, AffineProgram}
+use Rattle.std.specs.Prelude.{ℕ, zero, suc, ℤ, pos, negsuc, ◌+ℤ◌, ◌-ℤ◌, if◌then◌else◌, List, [], ◌∷◌, ◌++◌, map, flat_map}
+use Rattle.iolb_model.specs.Form.{form_value, are_met}
+use Rattle.iolb_model.specs.Program.{Direction, upward, downward, Item, assign, loop, guard, Row, done, next, AffineProgram}
 
 -- a statement, by its number, with the values of the loops around it, outermost first
 pub record Instance : Type 0 where
@@ -41,12 +41,13 @@ abbrev pub at_value : ℤ → Instance → Instance
 at_value value instance = record instance { values = value ∷ instance.values }
 
 -- The instances of an item and of a row at a point, which has the parameters' values and those of the loops
--- around it. A loop contributes its body once for each of its values.
+-- around it. A loop contributes its body once for each of its values, and a guard where its rows are met.
 abbrev mutual
   pub item_runs : Item → List ℤ → List Instance
   item_runs (assign statement) point = (record { statement = statement; values = [] }) ∷ []
   item_runs (loop name direction lower upper body) point =
       flat_map (λ value. map (at_value value) (row_runs body (point ++ value ∷ []))) (loop_values direction (form_value lower point) (form_value upper point))
+  item_runs (guard rows body) point = if are_met rows point then row_runs body point else []
 
   pub row_runs : Row → List ℤ → List Instance
   row_runs done point = []

@@ -1,7 +1,7 @@
 -- The order of execution, by the loops that two statements have in common. (Feautrier 1991; the levels of Allen and Kennedy 1987.)
 use Rattle.std.specs.Prelude.{◌≡◌, ℕ, zero, suc, ◌<◌, ℤ, ◌<ℤ◌, Bool, ◌&&◌, if◌then◌else◌, is_some, List, [], ◌∷◌}
 use Rattle.iolb_model.specs.Path.{item_path}
-use Rattle.iolb_model.specs.Program.{Direction, upward, downward, Item, assign, loop, Row, done, next, AffineProgram}
+use Rattle.iolb_model.specs.Program.{Direction, upward, downward, Item, assign, loop, guard, Row, done, next, AffineProgram}
 use Rattle.iolb_model.specs.Execution.{Instance}
 
 -- whether both statements are in the item
@@ -13,6 +13,7 @@ abbrev mutual
   pub item_common : Item → ℕ → ℕ → List Direction
   item_common (assign number) t s = []
   item_common (loop name direction lower upper body) t s = direction ∷ row_common body t s
+  item_common (guard rows body) t s = row_common body t s
 
   pub row_common : Row → ℕ → ℕ → List Direction
   row_common done t s = []

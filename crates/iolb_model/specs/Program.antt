@@ -1,4 +1,4 @@
--- Affine loop programs: a tree of loops over statements, whose bounds and subscripts are affine forms.
+-- Affine loop programs: a tree of loops and guards over statements, whose bounds, conditions and subscripts are affine forms.
 -- (The class of Feautrier 1991 and of PolyBench's kernels.)
 use Rattle.std.specs.Prelude.{◌≡◌, ℕ, suc, ◌≤◌, ⊤, List, [], ◌∷◌, ◌++◌, length, slice_get, IsSomeAnd, slice_index_or}
 use Rattle.std.specs.List.{AllByRecursion, range_with_len}
@@ -19,12 +19,14 @@ pub data Direction : Type 0 where
   upward : Direction
   downward : Direction
 
--- An item is a statement, by its number in the text, or a loop: its name, how its values go, its lower and upper bound,
--- both included, and its body. A row of items is none, or an item and then a row.
+-- An item is a statement, by its number in the text; or a loop: its name, how its values go, its lower and upper bound,
+-- both included, and its body; or a guard: forms, each of which is to be at least 0, and its body. A row of items is none,
+-- or an item and then a row.
 mutual
   pub data Item : Type 0 where
     assign : ℕ → Item
     loop : List ℕ → Direction → AffineForm → AffineForm → Row → Item
+    guard : List AffineForm → Row → Item
 
   pub data Row : Type 0 where
     done : Row
@@ -77,6 +79,7 @@ abbrev mutual
   ItemFits program variables (assign number) = StatementFits program variables number
   ItemFits program variables (loop name direction lower upper body) =
       IsOver variables lower × IsOver variables upper × RowFits program (suc variables) body
+  ItemFits program variables (guard rows body) = AllByRecursion (IsOver variables) rows × RowFits program variables body
 
   pub RowFits : AffineProgram → ℕ → Row → Type 0
   RowFits program variables done = ⊤
@@ -87,6 +90,7 @@ abbrev mutual
   pub item_statements : Item → List ℕ
   item_statements (assign number) = number ∷ []
   item_statements (loop name direction lower upper body) = row_statements body
+  item_statements (guard rows body) = row_statements body
 
   pub row_statements : Row → List ℕ
   row_statements done = []

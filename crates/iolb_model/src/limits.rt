@@ -3,6 +3,9 @@
 /// Loops around a statement, at most.
 pub const LOOPS: usize = 6;
 
+/// Rows of the guards around a statement, at most.
+pub const GUARDS: usize = 16;
+
 /// Parameters of a program, at most.
 pub const PARAMETERS: usize = 6;
 

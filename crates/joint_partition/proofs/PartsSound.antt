@@ -10,8 +10,8 @@ use Rattle.iolb_model.specs.Form.{AffineForm, form_value}
 use Rattle.iolb_model.specs.Path.{row_path}
 use Rattle.iolb_model.specs.Program.{AffineProgram, IsWellFormed}
 use Rattle.iolb_model.specs.Bound.{IsAdmitted}
-use Rattle.iolb_model.specs.Domain.{IsAt, IsWithin}
-use Rattle.affine_form.specs.Rows.{IsSmallOver, equality_rows, put_in, step_of, variables_from, widened, within_rows}
+use Rattle.iolb_model.specs.Domain.{IsAt, IsWithin, LeadAlong}
+use Rattle.affine_form.specs.Rows.{IsSmallOver, equality_rows, put_in, variables_from, widened, within_rows}
 use Rattle.affine_form.specs.Substitution.{values_at}
 use Rattle.affine_form.specs.System.{IsMet}
 use Rattle.affine_form.proofs.Meaning.{equality_rows-met, values-end, values-front, values-middle, widened-met, within_rows-met}
@@ -71,31 +71,31 @@ module _ (program : AffineProgram) (formed : IsWellFormed program) where
 
     module _ (parameters : List ℤ) (admitted : IsAdmitted program parameters) where
       -- a point of the nest is executed
-      point-executed : (u : List ℤ) → IsWithin (map step_of part.nest) parameters u → IsExecuted program parameters (record { statement = part.statement; values = u })
+      point-executed : (u : List ℤ) → IsWithin part.nest parameters u → IsExecuted program parameters (record { statement = part.statement; values = u })
       point-executed u within =
           let count : ℕ = length program.parameters in
           let vars : ℕ = count + length part.nest in
           let values : List AffineForm = variables_from vars count (length part.nest) in
-          let wide : length part.nest ≡ length u = sym (within-length (map step_of part.nest) parameters u within ∙ length-map part.nest step_of) in
+          let wide : length part.nest ≡ length u = sym (within-length part.nest parameters u within) in
           let goals : List AffineForm = domain_rows program part.statement vars (parameter_point program vars) values in
           let met : IsMet goals (parameters ++ u) =
           goals-met 10 (here ++ Key (codes "inside") ∷ []) (rows_before program part.nest) 0 goals part.inside (parameters ++ u)
           (omega (arith, fits.inside, domain_rows-few program part.statement vars (parameter_point program vars) values)) holds-inside (nest-met program part.nest parameters u formed admitted within) in
           let front : values_at (parameter_point program vars) (parameters ++ u) ≡ parameters = values-front vars count parameters u (sym admitted.each) (omega arith) in
           let end : values_at values (parameters ++ u) ≡ u = values-end vars count (length part.nest) parameters u (sym admitted.each) wide (omega arith) in
-          let in-path : IsWithin (path_of program part.statement) parameters u =
-          subst (λ (p : List ℤ). IsWithin (path_of program part.statement) p u) front
-          (subst (λ (v : List ℤ). IsWithin (path_of program part.statement) (values_at (parameter_point program vars) (parameters ++ u)) v) end
-          (domain_rows-says program part.statement vars (parameter_point program vars) values (parameters ++ u) (length-variables vars count (length part.nest) ∙ fits.each) met)) in
+          let in-path : LeadAlong (path_of program part.statement) parameters u =
+          subst (λ (p : List ℤ). LeadAlong (path_of program part.statement) p u) front
+          (subst (λ (v : List ℤ). LeadAlong (path_of program part.statement) (values_at (parameter_point program vars) (parameters ++ u)) v) end
+          (domain_rows-says program part.statement vars (parameter_point program vars) values (parameters ++ u) formed (length-variables vars 0 (length program.parameters)) (length-variables vars count (length part.nest) ∙ fits.each) met)) in
           let there : (n : ℕ) × IsAt program parameters n (record { statement = part.statement; values = u }) =
           (domains_executed program parameters (record { statement = part.statement; values = u }) formed).1
-          (holds-there (row_path program.tree part.statement) (λ p. IsWithin p parameters u) (way-there program part.statement formed fits.there) in-path) in
+          (holds-there (row_path program.tree part.statement) (λ p. LeadAlong p parameters u) (way-there program part.statement formed fits.there) in-path) in
           executed-there program parameters there.0 (record { statement = part.statement; values = u }) there.1
 
       all-executed : AllByRecursion (IsExecuted program parameters) (instances_in part.statement part.nest parameters)
       all-executed =
           All-map (IsExecuted program parameters) (λ (u : List ℤ). record { statement = part.statement; values = u }) (points part.nest parameters)
-          (All-weaken (λ (u : List ℤ). IsWithin (map step_of part.nest) parameters u) (λ (u : List ℤ). IsExecuted program parameters (record { statement = part.statement; values = u })) (points part.nest parameters)
+          (All-weaken (λ (u : List ℤ). IsWithin part.nest parameters u) (λ (u : List ℤ). IsExecuted program parameters (record { statement = part.statement; values = u })) (points part.nest parameters)
           (λ u within. point-executed u within) (points-within part.nest parameters))
 
     part-sound : IsSoundPart program dimensions part
@@ -127,8 +127,8 @@ module _ (program : AffineProgram) (formed : IsWellFormed program) where
   values-both [] ys at = refl
   values-both (x ∷ xs) ys at = ap (λ (l : List ℤ). form_value x at ∷ l) (values-both xs ys at)
 
-  module _ (first second : PartTerm) (parameters xs ys : List ℤ) (admitted : IsAdmitted program parameters) (in-first : IsWithin (map step_of first.nest) parameters xs)
-      (in-second : IsWithin (map step_of second.nest) parameters ys) (same : values_at first.image (parameters ++ xs) ≡ values_at second.image (parameters ++ ys)) where
+  module _ (first second : PartTerm) (parameters xs ys : List ℤ) (admitted : IsAdmitted program parameters) (in-first : IsWithin first.nest parameters xs)
+      (in-second : IsWithin second.nest parameters ys) (same : values_at first.image (parameters ++ xs) ≡ values_at second.image (parameters ++ ys)) where
     abbrev vars : ℕ
     vars = two_variables program first second
 
@@ -139,10 +139,10 @@ module _ (program : AffineProgram) (formed : IsWellFormed program) where
     point = (parameters ++ xs) ++ ys
 
     long-first : length first.nest ≡ length xs
-    long-first = sym (within-length (map step_of first.nest) parameters xs in-first ∙ length-map first.nest step_of)
+    long-first = sym (within-length first.nest parameters xs in-first)
 
     long-second : length second.nest ≡ length ys
-    long-second = sym (within-length (map step_of second.nest) parameters ys in-second ∙ length-map second.nest step_of)
+    long-second = sym (within-length second.nest parameters ys in-second)
 
     params-are : values_at params point ≡ parameters
     params-are =
@@ -162,21 +162,21 @@ module _ (program : AffineProgram) (formed : IsWellFormed program) where
         put-values part.image (params ++ values) point
         ∙ ap (values_at part.image) (values-both params values point ∙ ap (λ (l : List ℤ). l ++ values_at values point) params-are ∙ ap (λ (l : List ℤ). parameters ++ l) e)
 
-    nest-rows-met : (part : PartTerm) (values : List AffineForm) (x : List ℤ) → values_at values point ≡ x → IsWithin (map step_of part.nest) parameters x
-        → IsMet (within_rows vars (map step_of part.nest) params values) point
+    nest-rows-met : (part : PartTerm) (values : List AffineForm) (x : List ℤ) → values_at values point ≡ x → IsWithin part.nest parameters x
+        → IsMet (within_rows vars part.nest params values) point
     nest-rows-met part values x e within =
-        within_rows-met vars (map step_of part.nest) params values point
-        (subst (λ (p : List ℤ). IsWithin (map step_of part.nest) p (values_at values point)) (sym params-are)
-        (subst (λ (v : List ℤ). IsWithin (map step_of part.nest) parameters v) (sym e) within))
+        within_rows-met vars part.nest params values point
+        (subst (λ (p : List ℤ). IsWithin part.nest p (values_at values point)) (sym params-are)
+        (subst (λ (v : List ℤ). IsWithin part.nest parameters v) (sym e) within))
 
     abbrev assumed : List AffineForm
     assumed = map (widened vars) program.assumptions
 
     abbrev first_rows : List AffineForm
-    first_rows = within_rows vars (map step_of first.nest) params (first_values program first second)
+    first_rows = within_rows vars first.nest params (first_values program first second)
 
     abbrev second_rows : List AffineForm
-    second_rows = within_rows vars (map step_of second.nest) params (second_values program first second)
+    second_rows = within_rows vars second.nest params (second_values program first second)
 
     abbrev equal_rows : List AffineForm
     equal_rows = equality_rows vars (put_in (params ++ first_values program first second) first.image) (put_in (params ++ second_values program first second) second.image)
@@ -199,9 +199,9 @@ module _ (program : AffineProgram) (formed : IsWellFormed program) where
   images-apart show index place first second tree holds parameters xs ys admitted a b same =
       show 25 (member_at place (codes "distinct") index) (two_variables program first second) (two_rows program first second) tree holds ((parameters ++ xs) ++ ys)
       (rows-met first second parameters xs ys admitted (within first xs a) (within second ys b) same) where
-        within : (part : PartTerm) (x : List ℤ) → Contains (points part.nest parameters) x → IsWithin (map step_of part.nest) parameters x
+        within : (part : PartTerm) (x : List ℤ) → Contains (points part.nest parameters) x → IsWithin part.nest parameters x
         within part x c =
-            All-member (λ (u : List ℤ). IsWithin (map step_of part.nest) parameters u) (points part.nest parameters) x (points-within part.nest parameters) (member-of x (points part.nest parameters) c)
+            All-member (λ (u : List ℤ). IsWithin part.nest parameters u) (points part.nest parameters) x (points-within part.nest parameters) (member-of x (points part.nest parameters) c)
 
   apart-later : SplitsShow → (place : List Step) (index : ℕ) (part : PartTerm) (others : List PartTerm) (trees : List SplitTree) → length others ≤ length trees
       → AllHold (apart_from program place index part others trees) → AllByRecursion (AreImagesApart program part) others

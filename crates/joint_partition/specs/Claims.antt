@@ -3,7 +3,7 @@ use Rattle.std.specs.Prelude.{◌≡◌, ℕ, suc, ◌+◌, ◌≤◌, ◌==◌,
 use Rattle.iolb_model.specs.Form.{AffineForm}
 use Rattle.iolb_model.specs.Game.{stands_in}
 use Rattle.iolb_model.specs.Program.{AffineProgram}
-use Rattle.affine_form.specs.Rows.{equality_rows, put_in, step_of, variables_from, widened, within_rows}
+use Rattle.affine_form.specs.Rows.{equality_rows, put_in, variables_from, widened, within_rows}
 use Rattle.affine_form.specs.System.{AffineSystem}
 use Rattle.affine_program.specs.Domain.{domain_rows}
 use Rattle.claims.specs.Claims.{Claim, counted, numbered}
@@ -86,8 +86,8 @@ two_rows program first second =
     let vars = two_variables program first second in
     let params = parameter_point program vars in
     map (widened vars) program.assumptions
-    ++ within_rows vars (map step_of first.nest) params (first_values program first second)
-    ++ within_rows vars (map step_of second.nest) params (second_values program first second)
+    ++ within_rows vars first.nest params (first_values program first second)
+    ++ within_rows vars second.nest params (second_values program first second)
     ++ equality_rows vars (put_in (params ++ first_values program first second) first.image) (put_in (params ++ second_values program first second) second.image)
 
 abbrev pub apart_claims : AffineProgram → ℕ → List Step → PartTerm → PartTerm → SplitTree → List Claim

@@ -9,7 +9,7 @@ use Rattle.iolb_model.specs.Form.{AffineForm}
 use Rattle.iolb_model.specs.Path.{PathStep, row_path}
 use Rattle.iolb_model.specs.Program.{AffineProgram, IsWellFormed}
 use Rattle.iolb_model.specs.Bound.{IsAdmitted}
-use Rattle.iolb_model.specs.Domain.{IsWithin, IsAt}
+use Rattle.iolb_model.specs.Domain.{IsWithin, IsAt, LeadAlong}
 use Rattle.iolb_model.specs.Footprint.{AreDisjoint, ArePairwiseDisjoint}
 use Rattle.execution_laws.proofs.Domains.{domains_executed, way-there}
 use Rattle.claims.specs.Claims.{Claim, AllHold, numbered, counted}
@@ -17,7 +17,7 @@ use Rattle.claims.specs.declared.place.Step.{Step}
 use Rattle.claims.specs.declared.place.Step.TheVariants.{Key, Index}
 use Rattle.claims.proofs.Laws.{AllHold-left, AllHold-right}
 use Rattle.claims.proofs.Members.{counts-each}
-use Rattle.affine_form.specs.Rows.{variables_from, step_of}
+use Rattle.affine_form.specs.Rows.{variables_from}
 use Rattle.affine_form.specs.Substitution.{values_at}
 use Rattle.affine_form.specs.System.{IsMet}
 use Rattle.affine_form.proofs.Meaning.{values-front, values-end}
@@ -97,31 +97,31 @@ module _ (program : AffineProgram) (trees : List (List SelectionTree)) (term : P
 
   module _ (parameters : List ℤ) (admitted : IsAdmitted program parameters) where
     -- a point of the nest is executed
-    point-executed : (u : List ℤ) → IsWithin (map step_of term.nest) parameters u → IsExecuted program parameters (record { statement = term.statement; values = u })
+    point-executed : (u : List ℤ) → IsWithin term.nest parameters u → IsExecuted program parameters (record { statement = term.statement; values = u })
     point-executed u within =
         let count : ℕ = length program.parameters in
         let vars : ℕ = count + length term.nest in
         let path : List PathStep = path_of program term.statement in
         let values : List AffineForm = variables_from vars count (length term.nest) in
-        let wide : length term.nest ≡ length u = sym (within-length (map step_of term.nest) parameters u within ∙ length-map term.nest step_of) in
+        let wide : length term.nest ≡ length u = sym (within-length term.nest parameters u within) in
         let met : IsMet (inside_goals program term) (parameters ++ u) =
         goals-met 10 (place ++ Key (codes "inside") ∷ []) (rows_before program term.nest) 0 (inside_goals program term) term.inside (parameters ++ u)
         (omega (arith, fits.inside, domain_rows-few program term.statement vars (parameter_point program vars) values)) holds-inside (nest-met program term.nest parameters u formed admitted within) in
         let front : values_at (parameter_point program vars) (parameters ++ u) ≡ parameters = values-front vars count parameters u (sym admitted.each) (omega arith) in
         let end : values_at values (parameters ++ u) ≡ u = values-end vars count (length term.nest) parameters u (sym admitted.each) wide (omega arith) in
-        let in-path : IsWithin path parameters u =
-        subst (λ (p : List ℤ). IsWithin path p u) front
-        (subst (λ (v : List ℤ). IsWithin path (values_at (parameter_point program vars) (parameters ++ u)) v) end
-        (domain_rows-says program term.statement vars (parameter_point program vars) values (parameters ++ u) (length-variables vars count (length term.nest) ∙ fits.counted.each) met)) in
+        let in-path : LeadAlong path parameters u =
+        subst (λ (p : List ℤ). LeadAlong path p u) front
+        (subst (λ (v : List ℤ). LeadAlong path (values_at (parameter_point program vars) (parameters ++ u)) v) end
+        (domain_rows-says program term.statement vars (parameter_point program vars) values (parameters ++ u) formed (length-variables vars 0 (length program.parameters)) (length-variables vars count (length term.nest) ∙ fits.counted.each) met)) in
         let there : (n : ℕ) × IsAt program parameters n (record { statement = term.statement; values = u }) =
         (domains_executed program parameters (record { statement = term.statement; values = u }) formed).1
-        (holds-there (row_path program.tree term.statement) (λ p. IsWithin p parameters u) (way-there program term.statement formed fits.counted.there) in-path) in
+        (holds-there (row_path program.tree term.statement) (λ p. LeadAlong p parameters u) (way-there program term.statement formed fits.counted.there) in-path) in
         executed-there program parameters there.0 (record { statement = term.statement; values = u }) there.1
 
     pub all-executed : AllByRecursion (IsExecuted program parameters) (instances_in term.statement term.nest parameters)
     all-executed =
         All-map (IsExecuted program parameters) (λ (u : List ℤ). record { statement = term.statement; values = u }) (points term.nest parameters)
-        (All-weaken (λ (u : List ℤ). IsWithin (map step_of term.nest) parameters u) (λ (u : List ℤ). IsExecuted program parameters (record { statement = term.statement; values = u })) (points term.nest parameters)
+        (All-weaken (λ (u : List ℤ). IsWithin term.nest parameters u) (λ (u : List ℤ). IsExecuted program parameters (record { statement = term.statement; values = u })) (points term.nest parameters)
         (λ u within. point-executed u within) (points-within term.nest parameters))
 
   -- ---- family by family

@@ -19,7 +19,6 @@ use Rattle.execution_laws.proofs.Members.{Member, Member-map, Member-flat_map, M
 use Rattle.execution_laws.proofs.Ordered.{All-member, Member-map_from}
 use Rattle.pebble_game.proofs.InputVertices.{Member-input_cells, slice_get-below}
 use Rattle.pebble_game.proofs.Marks.{member-stands, standing-member}
-use Rattle.affine_form.specs.Rows.{step_of}
 use Rattle.affine_form.specs.Substitution.{values_at}
 use Rattle.domain_count.specs.Points.{points}
 use Rattle.reuse_paths.specs.Families.{CreditedNest, FamilyForms, NodeForms, node_label, node_region, label_at}
@@ -151,7 +150,7 @@ module _ (program : AffineProgram) (parameters : List ℤ) (formed : IsWellForme
     start-takes instance member =
         let there : IsExecuted program parameters instance = All-member (IsExecuted program parameters) counted instance executed member in
         let from = Member-map_from (λ (values : List ℤ). record { statement = statement; values = values }) instance (points nest parameters) member in
-        let within : IsWithin (map step_of nest) parameters from.0 = All-member (λ (u : List ℤ). IsWithin (map step_of nest) parameters u) (points nest parameters) from.0 (points-within nest parameters) from.1.0 in
+        let within : IsWithin nest parameters from.0 = All-member (λ (u : List ℤ). IsWithin nest parameters u) (points nest parameters) from.0 (points-within nest parameters) from.1.0 in
         let same : record { statement = statement; values = from.0 } ≡ instance = sym from.1.1 in (
           there,
           subst (λ (i : Instance). IsAt program parameters (place_of program parameters i) i

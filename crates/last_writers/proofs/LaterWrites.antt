@@ -12,7 +12,7 @@ use Rattle.iolb_model.specs.Program.{AffineProgram, Direction, IsWellFormed, Sta
 use Rattle.iolb_model.specs.Bound.{IsAdmitted}
 use Rattle.iolb_model.specs.Execution.{Instance}
 use Rattle.iolb_model.specs.Source.{Cell, written_cell}
-use Rattle.iolb_model.specs.Domain.{IsAt, IsInDomain, IsWithin}
+use Rattle.iolb_model.specs.Domain.{IsAt, IsInDomain, IsWithin, LeadAlong}
 use Rattle.iolb_model.specs.Order.{Precedes, common_loops}
 use Rattle.execution_laws.proofs.Members.{Member, Member-flat_map, Member-map}
 use Rattle.execution_laws.proofs.Domains.{counted-has, domains_executed, way-below}
@@ -20,9 +20,10 @@ use Rattle.execution_laws.proofs.Orders.{order_by_levels}
 use Rattle.execution_laws.proofs.Ways.{there-holds, within-length}
 use Rattle.affine_form.specs.Substitution.{values_at}
 use Rattle.affine_form.specs.System.{AffineSystem, IsMet}
-use Rattle.affine_form.specs.Rows.{equality_rows, order_rows, step_of, widened}
+use Rattle.affine_form.specs.Rows.{equality_rows, order_rows, widened}
+use Rattle.affine_form.proofs.RowLemmas.{length-variables}
 use Rattle.affine_form.proofs.Meaning.{HasLevel, equality_rows-met, order_rows-met, values-end, values-front, values_at-front, values_at-put_in, widened-stay}
-use Rattle.affine_program.specs.Domain.{depth_of, path_of, domain_rows}
+use Rattle.affine_program.specs.Domain.{bounds_at, depth_of, path_of, domain_rows}
 use Rattle.dep_quast.specs.Context.{parameter_point}
 use Rattle.dep_quast.specs.Levels.{level_count, levels, writers}
 use Rattle.reuse_paths.proofs.NestPoints.{nest-met-before}
@@ -43,12 +44,12 @@ Member-levels program t s level h = counted-has 0 (level_count program t s) leve
   below false e (inr last) = absurd (let true_test : nat_lt t s ≡ true = lt-ltb t s last.1 in cc)
 
 module _ (program : AffineProgram) (output : OutputClaim) (well : IsWellFormed program) (fits : OutputFits program output) (parameters u : List ℤ)
-    (admitted : IsAdmitted program parameters) (within : IsWithin (map step_of output.nest) parameters u) where
+    (admitted : IsAdmitted program parameters) (within : IsWithin output.nest parameters u) where
   abbrev here : Instance
   here = output_instance output parameters u
 
   point-count : output_variables program output ≡ length (parameters ++ u)
-  point-count = omega (arith, length-append parameters u, admitted.each, within-length (map step_of output.nest) parameters u within, length-map output.nest step_of)
+  point-count = omega (arith, length-append parameters u, admitted.each, within-length output.nest parameters u within)
 
   parameters-at : (vars : ℕ) (rest : List ℤ) → length program.parameters ≤ vars → values_at (parameter_point program vars) ((parameters ++ u) ++ rest) ≡ parameters
   parameters-at vars rest h =
@@ -71,11 +72,11 @@ module _ (program : AffineProgram) (output : OutputClaim) (well : IsWellFormed p
     writer-domain : IsInDomain program parameters writer
     writer-domain = (domains_executed program parameters writer well).0 (k, writes)
 
-    writer-within : IsWithin (path_of program w) parameters z
-    writer-within = there-holds (row_path program.tree w) (λ path. IsWithin path parameters z) writer-domain
+    writer-within : LeadAlong (path_of program w) parameters z
+    writer-within = there-holds (row_path program.tree w) (λ path. LeadAlong path parameters z) writer-domain
 
     count : depth_of program w ≡ length z
-    count = sym (within-length (path_of program w) parameters z writer-within)
+    count = sym (within-length (bounds_at program w) parameters z writer-within.0)
 
     writer-values : values_at zs point ≡ z
     writer-values = values-end vars (output_variables program output) (depth_of program w) (parameters ++ u) z point-count count (omega arith)
@@ -102,9 +103,9 @@ module _ (program : AffineProgram) (output : OutputClaim) (well : IsWellFormed p
         let at_point : AffineForm → Type 0 = λ row. pos 0 ≤ℤ form_value row point in
         let nest_met : IsMet nest point = widened-stay vars (output_system program output).rows point (nest-met-before program output.nest parameters u z well admitted within) in
         let domain_met : IsMet domain point =
-        domain_rows-met program w vars params zs point
-        (subst (λ (q : List ℤ). IsWithin (path_of program w) q (values_at zs point)) (sym (parameters-at vars z (omega arith)))
-        (subst (λ (q : List ℤ). IsWithin (path_of program w) parameters q) (sym writer-values) writer-within)) in
+        domain_rows-met program w vars params zs point well (length-variables vars 0 (length program.parameters))
+        (subst (λ (q : List ℤ). LeadAlong (path_of program w) q (values_at zs point)) (sym (parameters-at vars z (omega arith)))
+        (subst (λ (q : List ℤ). LeadAlong (path_of program w) parameters q) (sym writer-values) writer-within)) in
         let cell_met : IsMet (equality_rows vars mine its) point =
         equality_rows-met vars mine its point
         (written-values (output_variables program output) output.statement output.point here.values (omega arith) here-values
@@ -126,7 +127,7 @@ module _ (program : AffineProgram) (output : OutputClaim) (well : IsWellFormed p
 
     writer-member : written_cell program parameters writer ≡ written_cell program parameters here → Member w (writers program (statement_at program output.statement).writes.array)
     writer-member same =
-        let below : w < length program.statements = way-below program w (λ path. IsWithin path parameters z) well writer-domain in
+        let below : w < length program.statements = way-below program w (λ path. LeadAlong path parameters z) well writer-domain in
         subst (λ (n : ℕ). Member n (writers program (statement_at program output.statement).writes.array)) (none w)
         (Member-writers 0 program.statements (statement_at program output.statement).writes.array w below (ap (λ (c : Cell). c.array) same)) where
           none : (n : ℕ) → 0 + n ≡ n

@@ -4,7 +4,6 @@ use Rattle.std.specs.Prelude.{ℤ}
 use Rattle.iolb_model.specs.Domain.{IsAt, IsWithin}
 use Rattle.execution_laws.proofs.Ordered.{All-member, Member-map_from}
 use Rattle.pebble_game.proofs.Marks.{standing-member}
-use Rattle.affine_form.specs.Rows.{step_of}
 use Rattle.domain_count.specs.Points.{points}
 use Rattle.footprint_pieces.proofs.PieceVertices.{wide-values}
 use Rattle.reuse_paths.specs.Places.{place_of}
@@ -18,7 +17,7 @@ output-covers program output formed sound parameters vertex admitted stands =
     let place : List ℤ → ℕ = λ u. place_of program parameters (output_instance output parameters u) in
     let found = Member-map_from place vertex all (standing-member (output_footprint program output parameters) vertex stands) in
     let u : List ℤ = found.0 in
-    let within : IsWithin (map step_of output.nest) parameters u = All-member (λ (x : List ℤ). IsWithin (map step_of output.nest) parameters x) all u (points-within output.nest parameters) found.1.0 in
+    let within : IsWithin output.nest parameters u = All-member (λ (x : List ℤ). IsWithin output.nest parameters x) all u (points-within output.nest parameters) found.1.0 in
     let at : WritesLast program parameters (output_instance output parameters u) = All-member (λ (x : List ℤ). WritesLast program parameters (output_instance output parameters x)) all u (sound parameters admitted).0 found.1.0 in
     inl (record {
       values = u;

@@ -9,7 +9,7 @@ use Rattle.base_laws.proofs.Lists.{All-map, All-weaken}
 use Rattle.iolb_model.specs.Path.{PathStep, row_path}
 use Rattle.iolb_model.specs.Program.{AffineProgram, IsWellFormed}
 use Rattle.iolb_model.specs.Bound.{IsAdmitted}
-use Rattle.iolb_model.specs.Domain.{IsAt, IsWithin}
+use Rattle.iolb_model.specs.Domain.{IsAt, IsWithin, LeadAlong}
 use Rattle.iolb_model.specs.Execution.{Instance, execution}
 use Rattle.iolb_model.specs.Game.{marked}
 use Rattle.iolb_model.specs.Graph.{computation_graph, is_last_writer, placed}
@@ -19,9 +19,9 @@ use Rattle.execution_laws.proofs.Domains.{domains_executed, way-there}
 use Rattle.execution_laws.proofs.Members.{Member}
 use Rattle.execution_laws.proofs.Ordered.{All-from, All-member}
 use Rattle.execution_laws.proofs.Ways.{holds-there}
-use Rattle.affine_form.specs.Rows.{step_of}
 use Rattle.affine_form.specs.Shown.{HasNoPoint}
 use Rattle.affine_form.specs.System.{AffineSystem, IsMet}
+use Rattle.affine_form.proofs.RowLemmas.{length-variables}
 use Rattle.affine_form.proofs.Meaning.{values-front}
 use Rattle.affine_program.specs.Domain.{path_of}
 use Rattle.claims.specs.Claims.{AllHold, Claim}
@@ -120,7 +120,7 @@ module _ (program : AffineProgram) (at : List Step) (output : OutputClaim) (form
       All-member HasNoPoint (later_writes program output) system
       (none-met 24 (at ++ Key (codes "later") ∷ []) 0 (later_writes program output) output.later (omega (arith, fits.later)) (AllHold-right (inside ++ inverse) later holds)) m
 
-  module _ (u : List ℤ) (within : IsWithin (map step_of output.nest) parameters u) where
+  module _ (u : List ℤ) (within : IsWithin output.nest parameters u) where
     abbrev instance : Instance
     instance = output_instance output parameters u
 
@@ -136,12 +136,12 @@ module _ (program : AffineProgram) (at : List Step) (output : OutputClaim) (form
     executed : IsExecuted program parameters instance
     executed =
         let path : List PathStep = path_of program output.statement in
-        let inner : IsWithin path parameters instance.values =
-        subst (λ (q : List ℤ). IsWithin path q instance.values) (values-front vars (length program.parameters) parameters u (sym admitted.each) (omega arith))
-        (domain_rows-says program output.statement vars (parameter_point program vars) output.point (parameters ++ u) fits.point goals) in
+        let inner : LeadAlong path parameters instance.values =
+        subst (λ (q : List ℤ). LeadAlong path q instance.values) (values-front vars (length program.parameters) parameters u (sym admitted.each) (omega arith))
+        (domain_rows-says program output.statement vars (parameter_point program vars) output.point (parameters ++ u) formed (length-variables vars 0 (length program.parameters)) fits.point goals) in
         let there : (n : ℕ) × IsAt program parameters n instance =
         (domains_executed program parameters instance formed).1
-        (holds-there (row_path program.tree output.statement) (λ p. IsWithin p parameters instance.values) (way-there program output.statement formed fits.there) inner) in
+        (holds-there (row_path program.tree output.statement) (λ p. LeadAlong p parameters instance.values) (way-there program output.statement formed fits.there) inner) in
         executed-there program parameters there.0 instance there.1
 
     writes-last : WritesLast program parameters instance
@@ -153,7 +153,7 @@ module _ (program : AffineProgram) (at : List Step) (output : OutputClaim) (form
 
   each : AllByRecursion (λ u. WritesLast program parameters (output_instance output parameters u)) (points output.nest parameters)
   each = All-from (λ u. WritesLast program parameters (output_instance output parameters u)) (points output.nest parameters)
-      (λ u m. writes-last u (All-member (λ (w : List ℤ). IsWithin (map step_of output.nest) parameters w) (points output.nest parameters) u (points-within output.nest parameters) m))
+      (λ u m. writes-last u (All-member (λ (w : List ℤ). IsWithin output.nest parameters w) (points output.nest parameters) u (points-within output.nest parameters) m))
 
   one-instance : (u w : List ℤ) → Member u (points output.nest parameters) → Member w (points output.nest parameters)
       → place_of program parameters (output_instance output parameters u) ≡ place_of program parameters (output_instance output parameters w) → u ≡ w

@@ -16,7 +16,7 @@ ghost use Rattle.store_terms.specs.Limits.{IsSmallOutput};
 
 use affine_form::Memory;
 use affine_program::Program;
-use certificate_fit::counts::loops_around;
+use certificate_fit::counts::{domain_size, loops_around};
 use certificate_fit::lists::{all_bounds_fit, all_forms_fit, all_sums_fit, misfit};
 use claims::{ObjectKey, Place, Refused, Step};
 use dep_quast::levels::level_count;
@@ -89,7 +89,7 @@ fn front_fits(
     ensures { Decides (output_front_fit (meaning program.now) place.now (claim_of_output output.now)) result }
 {
     let loops = loops_around(program, output.statement);
-    if output.inside.as_slice().len() != 2 * loops {
+    if output.inside.as_slice().len() != domain_size(program, output.statement) {
         return Err(misfit(alloc, place, Step::Key(ObjectKey("inside"))));
     }
     let matrix = &output.inverse.matrix;

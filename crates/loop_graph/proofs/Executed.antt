@@ -1,6 +1,6 @@
 -- What holds of each instance that is executed.
-use Rattle.std.proofs.Common.{◌≡◌, sym, ap, ◌∙◌, subst, ℕ, suc, ◌+◌, ◌≤◌, List, [], ◌∷◌, ◌++◌, map, length}
-use Rattle.std.specs.Prelude.{flat_map}
+use Rattle.std.proofs.Common.{◌≡◌, sym, ap, ◌∙◌, subst, ℕ, suc, ◌+◌, ◌≤◌, List, [], ◌∷◌, ◌++◌, map, length, Bool, true, false}
+use Rattle.std.specs.Prelude.{if◌then◌else◌, flat_map}
 use Rattle.std.specs.List.{AllByRecursion}
 use Rattle.std.proofs.Math.IntN.{ℤ}
 use Rattle.std.proofs.lemmas.List.{length-append}
@@ -10,11 +10,11 @@ use Rattle.execution_laws.proofs.Members.{Member}
 use Rattle.execution_laws.proofs.Ordered.{All-from, All-member}
 use Rattle.execution_laws.proofs.Ways.{within-length, there-holds}
 use Rattle.affine_form.specs.Form.{IsSmall}
-use Rattle.affine_program.specs.Domain.{path_of, depth_of}
-use Rattle.iolb_model.specs.Domain.{IsWithin}
-use Rattle.iolb_model.specs.Form.{form_value}
+use Rattle.affine_program.specs.Domain.{bounds_at, depth_of}
+use Rattle.iolb_model.specs.Domain.{LeadAlong}
+use Rattle.iolb_model.specs.Form.{form_value, are_met}
 use Rattle.iolb_model.specs.Path.{row_path}
-use Rattle.iolb_model.specs.Program.{Item, assign, loop, Row, done, next, AffineProgram, IsWellFormed}
+use Rattle.iolb_model.specs.Program.{Item, assign, loop, guard, Row, done, next, AffineProgram, IsWellFormed}
 use Rattle.iolb_model.specs.Execution.{Instance, loop_values, at_value, item_runs, row_runs, execution}
 use Rattle.loop_graph.specs.Turns.{item_turns, row_turns, turns}
 use Rattle.loop_graph.specs.Runs.{with_point, run_of, IsRun}
@@ -44,6 +44,11 @@ mutual
   item_values P (assign statement) point h = (tt, tt)
   item_values P (loop name direction lower upper body) point h =
       body_values P body point (λ value turns. row_values P body (point ++ value ∷ []) turns) (loop_values direction (form_value lower point) (form_value upper point)) h
+  item_values P (guard rows body) point h = tested (are_met rows point) (λ turns. row_values P body point turns) h where
+    tested : (b : Bool) → (AllByRecursion P (row_turns body point) → AllByRecursion (HasAll P) (row_runs body point))
+        → AllByRecursion P (if b then row_turns body point else []) → AllByRecursion (HasAll P) (if b then row_runs body point else [])
+    tested true inner turns = inner turns
+    tested false inner turns = tt
 
   pub row_values : (P : ℤ → Type 0) (row : Row) (point : List ℤ) → AllByRecursion P (row_turns row point) → AllByRecursion (HasAll P) (row_runs row point)
   row_values P done point h = tt
@@ -64,8 +69,9 @@ instances program parameters well small = All-from (IsInstance program) (executi
   one : (instance : Instance) → Member instance (execution program parameters) → IsInstance program instance
   one instance m =
       let within = row_runs-within program.tree parameters instance.statement instance.values (statements-rise program well) m in record {
-        there = way-below program instance.statement (λ path. IsWithin path parameters instance.values) well within;
-        values = within-length (path_of program instance.statement) parameters instance.values (there-holds (row_path program.tree instance.statement) (λ path. IsWithin path parameters instance.values) within);
+        there = way-below program instance.statement (λ path. LeadAlong path parameters instance.values) well within;
+        values = within-length (bounds_at program instance.statement) parameters instance.values
+            (there-holds (row_path program.tree instance.statement) (λ path. LeadAlong path parameters instance.values) within).0;
         small = All-member (HasAll (IsSmall VALUE_SIZE)) (execution program parameters) instance (row_values (IsSmall VALUE_SIZE) program.tree parameters small) m;
       }
 

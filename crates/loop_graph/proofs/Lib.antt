@@ -1,4 +1,5 @@
 pub mod LoopValues
+pub mod RowsMet
 pub mod Walks
 pub mod Executed
 pub mod Counting

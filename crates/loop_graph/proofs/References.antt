@@ -1,18 +1,20 @@
 -- The references of a run's statement are over the values of its point.
-use Rattle.std.proofs.Common.{◌≡◌, sym, ◌∙◌, ap, subst, ℕ, zero, suc, ◌+◌, ◌<◌, ◌≤◌, List, [], ◌∷◌, length, map, get_or, arith}
+use Rattle.std.proofs.Common.{◌≡◌, sym, ◌∙◌, ap, subst, ℕ, zero, suc, ◌<◌, ◌≤◌, List, [], ◌∷◌, length, map, get_or, arith}
 use Rattle.std.specs.List.{AllByRecursion}
 use Rattle.std.proofs.lemmas.List.{length-map, get_or-map}
 use Rattle.std.proofs.lemmas.Simd.{map-map}
 use Rattle.std.specs.Prelude.{IsSomeAnd, slice_get}
 use Rattle.iolb_model.specs.Source.{cell_of}
-use Rattle.iolb_model.specs.Path.{PathStep}
+use Rattle.execution_laws.proofs.Domains.{way-there}
+use Rattle.execution_laws.proofs.Ways.{there-holds}
+use Rattle.iolb_model.specs.Path.{row_path}
 use Rattle.iolb_model.specs.Program.{Access, AccessFits, Statement as ModelStatement, StatementFits, statement_at, no_statement}
 use Rattle.iolb_model.specs.declared.limits.TheConstants.{READS, SUBSCRIPTS}
-use Rattle.affine_form.specs.Rows.{step_of}
 use Rattle.affine_program.specs.declared.reference.Reference.{Reference}
 use Rattle.affine_program.specs.declared.statement.Statement.{Statement}
 use Rattle.affine_program.specs.Parts.{ProgramParts, IsProgram, access_of, array_of, statement_of, meaning}
-use Rattle.affine_program.proofs.Bounds.{stands, path-is, limits-at}
+use Rattle.affine_program.specs.Tree.{row_of}
+use Rattle.affine_program.proofs.Bounds.{StandsAt, row-stands, limits-at}
 use Rattle.loop_graph.specs.declared.listed.Run.{Run}
 use Rattle.loop_graph.specs.Runs.{IsRun, run_of}
 use Rattle.loop_graph.specs.Cells.{Fits, cells_read}
@@ -48,9 +50,10 @@ module _ (parts : ProgramParts) (run : Run) (at : Statement) (is : IsProgram par
 
   fits : StatementFits (meaning parts) (length run.point.items) run.statement
   fits =
-      let many : length run.point.items ≡ length parts.params + length (map step_of at.bounds.items) =
-      runs.values ∙ ap (λ (path : List PathStep). length parts.params + length path) (path-is parts run.statement at is below read) in
-      subst (λ (n : ℕ). StatementFits (meaning parts) n run.statement) (sym many) (stands parts run.statement at is below read).1
+      subst (λ (n : ℕ). StatementFits (meaning parts) n run.statement) (sym runs.values)
+      (there-holds (row_path (row_of parts.tree) run.statement) (StandsAt (meaning parts) (length parts.params) run.statement)
+      (row-stands (meaning parts) (length parts.params) (row_of parts.tree) run.statement is.well_formed.tree
+      (way-there (meaning parts) run.statement is.well_formed runs.there))).1
 
   pub written-fits : Fits (length run.point.items) at.writes
   written-fits =

@@ -1,18 +1,18 @@
 -- The instances of a loop and of a row, one after the other.
-use Rattle.std.proofs.Common.{◌≡◌, refl, sym, ap, ◌∙◌, subst, ℕ, zero, suc, List, [], ◌∷◌, Bool, ◌++◌, ◌+◌, ◌<◌, length, drop, get_or, map, append_assoc, arith, Vec, Global}
-use Rattle.std.specs.Prelude.{flat_map}
+use Rattle.std.proofs.Common.{◌≡◌, refl, sym, ap, ◌∙◌, subst, ℕ, zero, suc, List, [], ◌∷◌, Bool, true, ◌++◌, ◌+◌, ◌<◌, length, drop, get_or, map, append_assoc, arith, Vec, Global}
+use Rattle.std.specs.Prelude.{if◌then◌else◌, flat_map}
 use Rattle.std.specs.List.{AllByRecursion}
 use Rattle.std.proofs.Math.IntN.{ℤ}
 use Rattle.std.proofs.lemmas.List.{append-nil, map-append, length-append}
 use Rattle.affine_form.specs.Form.{IsSmall}
-use Rattle.iolb_model.specs.Program.{Direction, Item as ModelItem, assign, loop, Row, done, next, AffineProgram, ItemFits, RowFits}
+use Rattle.iolb_model.specs.Program.{Direction, Item as ModelItem, assign, loop, guard, Row, done, next, AffineProgram, ItemFits, RowFits}
 use Rattle.iolb_model.specs.declared.limits.TheConstants.{VALUE_SIZE}
 use Rattle.base_laws.proofs.Lists.{rest_at, All-push}
 use Rattle.affine_program.specs.declared.item.Item.{Item}
-use Rattle.affine_program.specs.declared.item.Item.TheVariants.{Loop, Assign, rolls-Loop, rolls-Assign}
-use Rattle.affine_program.specs.declared.item.Item.TheOpen.{Loop as loop_layer, Assign as assign_layer}
+use Rattle.affine_program.specs.declared.item.Item.TheVariants.{Loop, Guard, Assign, rolls-Loop, rolls-Guard, rolls-Assign}
+use Rattle.affine_program.specs.declared.item.Item.TheOpen.{Loop as loop_layer, Guard as guard_layer, Assign as assign_layer}
 use Rattle.affine_program.specs.declared.item.Item.TheFolds.{fold-roll-Item}
-use Rattle.iolb_model.specs.Form.{AffineForm}
+use Rattle.iolb_model.specs.Form.{AffineForm, are_met}
 use Rattle.affine_form.specs.Rows.{direction_of}
 use Rattle.affine_program.specs.Tree.{item_step, item_of, row_of}
 use Rattle.iolb_model.specs.Execution.{Instance, at_value, item_runs, row_runs}
@@ -68,6 +68,9 @@ loop_goes_on body point value values before after total one so_far =
 pub item_of-Loop : (name : List ℕ) (lower upper : AffineForm) (down : Bool) (body : Vec Item Global) → item_of (Loop name lower upper down body) ≡ loop name (direction_of down) lower upper (row_of body.items)
 item_of-Loop name lower upper down body = ap item_of (sym (rolls-Loop name lower upper down body)) ∙ fold-roll-Item ModelItem item_step (loop_layer name lower upper down body)
 
+pub item_of-Guard : (rows : Vec AffineForm Global) (body : Vec Item Global) → item_of (Guard rows body) ≡ guard rows.items (row_of body.items)
+item_of-Guard rows body = ap item_of (sym (rolls-Guard rows body)) ∙ fold-roll-Item ModelItem item_step (guard_layer rows body)
+
 pub item_of-Assign : (statement : ℕ) → item_of (Assign statement) ≡ assign statement
 item_of-Assign statement = ap item_of (sym (rolls-Assign statement)) ∙ fold-roll-Item ModelItem item_step (assign_layer statement)
 
@@ -76,6 +79,7 @@ mutual
   pub item_size : ModelItem → ℕ
   item_size (assign statement) = 0
   item_size (loop name direction lower upper body) = suc (row_size body)
+  item_size (guard rows body) = suc (row_size body)
 
   pub row_size : Row → ℕ
   row_size done = 0
@@ -84,6 +88,10 @@ mutual
 pub body_smaller : (t : ModelItem) (name : List ℕ) (direction : Direction) (lower upper : AffineForm) (body : Row) → t ≡ loop name direction lower upper body → row_size body < item_size t
 unfolding item_size row_size
 body_smaller t name direction lower upper body e = omega (arith, ap item_size e)
+
+pub guarded_smaller : (t : ModelItem) (rows : List AffineForm) (body : Row) → t ≡ guard rows body → row_size body < item_size t
+unfolding item_size row_size
+guarded_smaller t rows body e = omega (arith, ap item_size e)
 
 pub item_smaller : (row : List Item) (i : ℕ) (item : Item) → i < length row → item ≡ get_or row i item → item_size (item_of item) < row_size (row_of row)
 unfolding item_size row_size
@@ -131,6 +139,12 @@ body_asks body point inner value values is fits small turns =
       ),
       subst (AllByRecursion (IsSmall VALUE_SIZE)) (sym is) (All-push (IsSmall VALUE_SIZE) point value small first.0.0),
     )
+
+-- what is asked for at a guard's body, where its rows are met
+pub guarded_asks : (item : ModelItem) (rows : List AffineForm) (body : Row) (point : List ℤ) → item ≡ guard rows body → are_met rows point ≡ true → ItemAsks item point → RowAsks body point
+guarded_asks item rows body point is met asks =
+    let here : ItemAsks (guard rows body) point = subst (λ (i : ModelItem). ItemAsks i point) is asks in
+    ((here.0.0, here.0.1.1), subst (λ (b : Bool). AllByRecursion (IsSmall VALUE_SIZE) (if b then row_turns body point else [])) met here.1)
 
 pub assign_done : (runs after : List Run) (run : Run) (statement : ℕ) (point : List ℤ) → after ≡ runs ++ run ∷ [] → run.statement ≡ statement → run.point.items ≡ point
     → map run_of after ≡ map run_of runs ++ map (with_point point) (item_runs (assign statement) point)

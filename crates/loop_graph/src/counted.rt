@@ -11,6 +11,7 @@ ghost use Rattle.loop_graph.specs.Turns.{item_turns, row_turns, turns as turns_o
 ghost use Rattle.loop_graph.specs.Rooms.{HasRoom, IsLeft, MayBegin};
 ghost use Rattle.iolb_model.specs.declared.limits.TheConstants.{VALUE_SIZE};
 
+use crate::guards::are_met;
 use crate::listed::put_point;
 use crate::values::Values;
 use affine_form::Memory;
@@ -106,6 +107,8 @@ fn behind_item(alloc: Global, item: &Item, point: &[i128], room: Room) -> Left
             }
             Ok(Some(left))
         }
+        Item::Guard { rows, body } if are_met(rows, point) => behind_row(alloc, body, point, room),
+        Item::Guard { .. } => Ok(Some(room)),
     }
 }
 

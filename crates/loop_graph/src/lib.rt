@@ -6,6 +6,7 @@ mod cells;
 mod counted;
 mod fault;
 mod graphs;
+mod guards;
 mod known;
 pub mod limits;
 mod listed;

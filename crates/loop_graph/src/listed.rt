@@ -11,6 +11,7 @@ ghost use Rattle.loop_graph.specs.Turns.{item_turns, row_turns, turns};
 ghost use Rattle.loop_graph.specs.Runs.{with_point, run_of, IsRun};
 ghost use Rattle.iolb_model.specs.declared.limits.TheConstants.{VALUE_SIZE};
 
+use crate::guards::are_met;
 use crate::values::Values;
 use affine_form::Memory;
 use affine_program::{Item, Program};
@@ -45,7 +46,8 @@ pub(crate) fn put_point(buffer: &mut Vec<i128>, point: &[i128], value: i128) -> 
     Ok(())
 }
 
-/// Puts the instances of an item at the end: of a loop those of its body for each of its values.
+/// Puts the instances of an item at the end: of a loop those of its body for each of its values, and of a guard those of its
+/// body where its rows are met.
 #[cycle(walk)]
 fn push_item(alloc: Global, item: &Item, point: &[i128], runs: &mut Vec<Run>) -> Result<(), Memory>
     requires fits { (program : AffineProgram) × ItemFits program (length point.now) (item_of item.now) }
@@ -76,6 +78,11 @@ fn push_item(alloc: Global, item: &Item, point: &[i128], runs: &mut Vec<Run>) ->
             while let Some(value) = values.next() {
                 put_point(&mut inner, point, value)?;
                 push_row(alloc, body, inner.as_slice(), runs)?;
+            }
+        }
+        Item::Guard { rows, body } => {
+            if are_met(rows, point) {
+                push_row(alloc, body, point, runs)?;
             }
         }
     }

@@ -3,7 +3,8 @@
 use crate::drafts::{Draft, Way};
 use affine_facts::affine::{Affine, copies};
 use affine_facts::facts::{Facts, Origin, ReadFacts, TreeLeaf};
-use affine_facts::nests::{fitted, image, narrowed, ranged, tightened, wide_loops};
+use affine_facts::fitted::fitted;
+use affine_facts::nests::{image, narrowed, ranged, tightened, wide_loops};
 use affine_facts::numbers::narrow;
 use affine_facts::shown::{Rows, all_put, all_shown, equalities, followed, no_point, within};
 use affine_facts::words::Words;
@@ -142,7 +143,7 @@ fn stop_bounds(
     let Some(own) = facts.statement(source.statement) else {
         return Ok(None);
     };
-    let bounds = own.bounds.as_slice();
+    let bounds = own.nest.as_slice();
     let found = match outside {
         Some(row) => {
             let opposite = row.negated(alloc)?;

@@ -175,7 +175,7 @@ pub(crate) fn stepped_by(
         return Ok(None);
     };
     let reader = Reader {
-        bounds: source.bounds.as_slice(),
+        bounds: source.nest.as_slice(),
         label: label.as_slice(),
         read,
     };
@@ -248,7 +248,7 @@ pub(crate) fn drafted(
         return Ok(None);
     };
     let reader = Reader {
-        bounds: own_facts.bounds.as_slice(),
+        bounds: own_facts.nest.as_slice(),
         label,
         read: start,
     };

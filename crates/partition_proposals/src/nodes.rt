@@ -40,7 +40,7 @@ fn region_of(
     if let Some(row) = &step.row {
         more.push(row.copied(alloc)?)?;
     }
-    let given = reader_rows(alloc, at.facts, source.bounds.as_slice(), more.as_slice())?;
+    let given = reader_rows(alloc, at.facts, source, more.as_slice())?;
     let Some(rows) = all_forms(alloc, given.vars, more.as_slice())? else {
         return Ok(Found::Fails);
     };
@@ -107,7 +107,7 @@ fn onward_from(
     let at = At {
         facts,
         draft,
-        bounds: source.bounds.as_slice(),
+        bounds: source.nest.as_slice(),
         label,
     };
     node_from(alloc, &at, work, statement, source, forms)

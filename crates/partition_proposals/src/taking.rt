@@ -2,8 +2,8 @@
 
 use crate::entries::{At, Entry, Work, entry_at};
 use affine_facts::affine::Affine;
-use affine_facts::facts::{Facts, ReadFacts, with_row};
-use affine_facts::nests::nest_rows;
+use affine_facts::facts::{Facts, ReadFacts, StatementFacts, with_row};
+use affine_facts::nests::instance_rows;
 use affine_facts::shown::{Rows, followed};
 use affine_facts::words::Words;
 use affine_form::Memory;
@@ -146,10 +146,10 @@ pub(crate) fn walk_by(
 pub(crate) fn reader_rows(
     alloc: Global,
     facts: &Facts,
-    bounds: &[(Affine, Affine)],
+    own: &StatementFacts,
     more: &[Affine],
 ) -> Result<Rows, Memory> {
-    let Rows { vars, rows } = nest_rows(alloc, facts, bounds)?;
+    let Rows { vars, rows } = instance_rows(alloc, facts, own)?;
     Ok(Rows {
         vars,
         rows: followed(alloc, rows, more)?,

@@ -8,7 +8,7 @@ use crate::families::{Families, anew, choices, cover, families_of, weighted, wit
 use affine_facts::affine::loops;
 use affine_facts::facts::Facts;
 use affine_facts::nests::{counted, nest_rows};
-use affine_facts::shown::{all_shown, within};
+use affine_facts::shown::all_shown;
 use affine_facts::words::{Words, apart, are_none_of, joined};
 use affine_form::{Memory, Multipliers};
 use affine_program::Program;
@@ -60,12 +60,7 @@ fn inside(alloc: Global, facts: &Facts, work: &Work) -> Result<Option<Vec<Multip
     };
     let given = nest_rows(alloc, facts, work.bounds.as_slice())?;
     let values = loops(alloc, facts.params, own.depth())?;
-    let goals = within(
-        alloc,
-        facts.params,
-        own.bounds.as_slice(),
-        values.as_slice(),
-    )?;
+    let goals = own.domain(alloc, facts.params, values.as_slice())?;
     all_shown(alloc, &given, goals.as_slice())
 }
 

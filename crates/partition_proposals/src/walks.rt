@@ -60,11 +60,11 @@ fn start(alloc: Global, facts: &Facts, draft: &Draft, work: &mut Work) -> Result
         work.bounds.as_slice(),
         values.as_slice(),
     )?;
-    let given = reader_rows(alloc, facts, own.bounds.as_slice(), nest.as_slice())?;
+    let given = reader_rows(alloc, facts, own, nest.as_slice())?;
     let at = At {
         facts,
         draft,
-        bounds: own.bounds.as_slice(),
+        bounds: own.nest.as_slice(),
         label: draft.label.as_slice(),
     };
     walk_by(alloc, &at, work, &given, draft.read, read)
@@ -155,7 +155,7 @@ pub(crate) fn begun(
     room: Room,
 ) -> Result<Work, Memory> {
     let bounds = match facts.statement(statement) {
-        Some(own) => copied_bounds(alloc, own.bounds.as_slice())?,
+        Some(own) => copied_bounds(alloc, own.nest.as_slice())?,
         None => Vec::new(alloc),
     };
     Ok(Work {

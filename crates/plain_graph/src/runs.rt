@@ -2,7 +2,7 @@
 
 ghost use Rattle.std.specs.Prelude.{◌≡◌, ◌++◌, ◌∷◌, [], map, IfOk, true, OnOk};
 ghost use Rattle.std.specs.List.{AllByRecursion};
-ghost use Rattle.iolb_model.specs.Form.{form_value};
+ghost use Rattle.iolb_model.specs.Form.{form_value, are_met};
 ghost use Rattle.iolb_model.specs.Execution.{rising, falling, range_size, loop_values, at_value, item_runs, row_runs};
 ghost use Rattle.affine_form.specs.Form.{IsSmall};
 ghost use Rattle.affine_form.specs.Rows.{direction_of};
@@ -42,6 +42,18 @@ pub fn value_at(form: &Form, point: &[i128]) -> Result<i128, Stopped>
         return Err(Stopped::OutOfReach);
     }
     Ok(form.value(point))
+}
+
+/// Whether each of these forms is at least 0 at a point.
+fn are_met(forms: &[Form], point: &[i128]) -> Result<bool, Stopped>
+    ensures { IfOk result (λ met. met ≡ are_met forms.now point.now) }
+{
+    for form in forms {
+        if value_at(form, point)? < 0 {
+            return Ok(false);
+        }
+    }
+    Ok(true)
 }
 
 /// The values from a first one on, so many, each one more than the one before.
@@ -173,6 +185,12 @@ pub fn runs_of_row(alloc: Global, row: &[Item], point: &[i128]) -> Result<Vec<In
                         *value,
                         runs_of_row(alloc, body, inner.as_slice())?,
                     )?;
+                }
+            }
+            Item::Guard { rows, body } => {
+                if are_met(rows, point)? {
+                    let mut inner = runs_of_row(alloc, body, point)?;
+                    runs.append(&mut inner)?;
                 }
             }
         }

@@ -10,7 +10,6 @@ use Rattle.std.proofs.lemmas.List.FromFn.{get_or-map-range_with_len}
 use denote.RawPtr.{null_ptr}
 use Rattle.base_laws.proofs.Lists.{All-append, All-weaken}
 use Rattle.iolb_model.specs.Form.{AffineForm, dot}
-use Rattle.iolb_model.specs.Path.{PathStep}
 use Rattle.iolb_model.specs.Program.{AffineProgram}
 use Rattle.affine_form.specs.Form.{IsSmallForm, variables}
 use Rattle.affine_form.specs.Multipliers.{FarkasMultipliers}
@@ -19,7 +18,7 @@ use Rattle.affine_form.specs.Substitution.{substitution, width}
 use Rattle.affine_form.specs.System.{AffineSystem, AllOver}
 use Rattle.affine_form.proofs.RowLemmas.{AllOver-width, length-variables, variables-over}
 use Rattle.affine_form.proofs.SubstitutionLemmas.{length-substitution}
-use Rattle.affine_program.specs.Domain.{depth_of, domain_rows}
+use Rattle.affine_program.specs.Domain.{depth_of, domain_rows, guards_at}
 use Rattle.affine_program.specs.Parts.{ProgramParts, IsProgram, meaning, statement_of}
 use Rattle.claims.specs.Shown.{IsFew}
 use Rattle.cold_terms.specs.Outline.{ColdOutline, OutlineFits, outline_in}
@@ -123,8 +122,8 @@ module _ (program : AffineProgram) (reader : ReadOf) (loops below : List ℕ) (n
   abbrev rows : List AffineForm
   rows = domain_rows program reader.statement (variables_at program reader) (variables_from (variables_at program reader) 0 p) (variables_from (variables_at program reader) p d)
 
-  few : IsFew (length (context program reader []))
-  few = long where
+  few : guards_at program reader.statement ≡ [] → IsFew (length (context program reader []))
+  few bare = long where
     long : length ((wide ++ rows) ++ []) ≤ 128
     long = omega (
       arith,
@@ -132,6 +131,7 @@ module _ (program : AffineProgram) (reader : ReadOf) (loops below : List ℕ) (n
       length-append wide rows,
       length-map program.assumptions (widened (variables_at program reader)),
       length-domain_rows program reader.statement (variables_at program reader) (variables_from (variables_at program reader) 0 p) (variables_from (variables_at program reader) p d) (length-variables (variables_at program reader) p d),
+      ap (λ (guards : List AffineForm). length guards) bare,
       room.assumptions,
       room.depth,
     )
@@ -140,7 +140,7 @@ module _ (program : AffineProgram) (reader : ReadOf) (loops below : List ℕ) (n
 
   nest-is : named_nest program reader loops ≡ state_after program below names d
   nest-is =
-      ap (λ (path : List PathStep). nest_along program reader.statement loops 0 path (record { nest = []; values = [] })) (sym run.path)
+      ap (λ (bounds : List (AffineForm × AffineForm)). nest_along program reader.statement loops 0 bounds (record { nest = []; values = [] })) (sym run.around)
       ∙ nest-along program below reader.statement run.upward loops run.bounds below [] 0 (subst (λ (n : ℕ). RunBelow program n run.bounds below) (more p) run.run) (λ i. ap (λ (n : ℕ). get_or below n 0) (front i)) tt
       ∙ ap (λ (n : ℕ). state_after program below (filter (is_named loops) (range_with_len 0 n)) (0 + n)) (way-many r)
       ∙ ap (state_after program below names) (sym (front d)) where
@@ -225,24 +225,25 @@ module _ (program : AffineProgram) (reader : ReadOf) (loops below : List ℕ) (n
   abbrev goals : List AffineForm
   goals = domain_rows program reader.statement (vars r) (variables_from (vars r) 0 p) (values r)
 
-  shown : (ms : List FarkasMultipliers) × Answers Short (following (system r) goals) ms × (length ms ≡ length (following (system r) goals))
-  shown = short-answers (following (system r) goals) (inside-short r)
+  shown : guards_at program reader.statement ≡ [] → (ms : List FarkasMultipliers) × Answers Short (following (system r) goals) ms × (length ms ≡ length (following (system r) goals))
+  shown bare = short-answers (following (system r) goals) (inside-short r bare)
 
-  shown-few : length shown.0 < 2 ^ 63
-  shown-few = omega (
+  shown-few : (bare : guards_at program reader.statement ≡ []) → length (shown bare).0 < 2 ^ 63
+  shown-few bare = omega (
     arith,
-    shown.2,
+    (shown bare).2,
     length-map goals (λ (goal : AffineForm). let question : Question = record { system = system r; goal = goal } in question),
     length-domain_rows program reader.statement (vars r) (variables_from (vars r) 0 p) (values r) (values-many r),
+    ap (λ (guards : List AffineForm). length guards) bare,
     room.depth,
   )
 
-  module _ (alloc : Global) (read : ReadFits program reader) (unwritten : writers program (reference_of program reader).array ≡ []) where
+  module _ (alloc : Global) (read : ReadFits program reader) (unwritten : writers program (reference_of program reader).array ≡ []) (bare : guards_at program reader.statement ≡ []) where
     none-earlier : earlier_writes program reader (context program reader []) ≡ []
     none-earlier = ap (λ (all : List ℕ). flat_map (λ writer. map (earlier_write program reader (context program reader []) writer) (levels program writer reader.statement)) all) unwritten
 
     tree-plain : IsPlain program reader tree
-    tree-plain = inl (input-shown Short program reader [] TREE_TESTS [] few
+    tree-plain = inl (input-shown Short program reader [] TREE_TESTS [] (few bare)
         (subst (λ (systems : List AffineSystem). Answers Short (map pointless systems) []) (sym none-earlier) (record { each = tt; as_short = tt })))
 
     abbrev cold : Cold
@@ -252,7 +253,7 @@ module _ (program : AffineProgram) (reader : ReadOf) (loops below : List ℕ) (n
       nest = nest r;
       sums = claims r;
       point = vec_of alloc (values r) (omega (arith, values-many r, room.depth));
-      inside = vec_of alloc shown.0 shown-few;
+      inside = vec_of alloc (shown bare).0 (shown-few bare);
       inverse = record { matrix = order_matrix loops names; scale = 1 };
       leaves = vec_of alloc (Stop (vec_of alloc [] (lit< tt)) ∷ []) (lit< tt);
     }
@@ -278,7 +279,7 @@ module _ (program : AffineProgram) (reader : ReadOf) (loops below : List ℕ) (n
         tree = tree;
         plain = tree-plain;
         outline = (loops, named, sym outline-is);
-        shown = cold-shown Short program tree cold fits-outline tt matrix-undone shown.1
+        shown = cold-shown Short program tree cold fits-outline tt matrix-undone (shown bare).1
             (stop-closes Short _ true (omega (arith, rows-few r, length-append (system r).rows [])) refl, tt) (nest-counted r);
       },
     )
@@ -331,7 +332,7 @@ program-room parts is statement there = record {
 
 pub inputs-plain : Global → InputReadsArePlain
 inputs-plain alloc parts reader loops below is h =
-    input-plain (meaning parts) reader loops below h.named h.run (program-room parts is reader.statement (omega (arith, h.read.statement, length-map parts.statements statement_of))) alloc h.read h.unwritten
+    input-plain (meaning parts) reader loops below h.named h.run (program-room parts is reader.statement (omega (arith, h.read.statement, length-map parts.statements statement_of))) alloc h.read h.unwritten h.unguarded
 
 pub openings-count : OpeningTermsCountProducts
 openings-count parts reader loops below is named run cold count opens right =

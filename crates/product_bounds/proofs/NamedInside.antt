@@ -3,18 +3,18 @@ use Rattle.std.proofs.Common.{◌≡◌, ◌≢◌, sym, ◌∙◌, ap, subst, i
 use Rattle.std.specs.List.{AllByRecursion}
 use Rattle.std.proofs.Math.IntN.{ℤ, pos, negsuc, ◌+ℤ◌}
 use Rattle.std.proofs.lemmas.Int.{ints}
-use Rattle.std.proofs.lemmas.List.{length-map, get_or-map}
+use Rattle.std.proofs.lemmas.List.{get_or-map}
 use Rattle.base_laws.proofs.Lists.{All-at, All-map, All-weaken}
 use Rattle.iolb_model.specs.Form.{AffineForm, form_value}
-use Rattle.iolb_model.specs.Path.{PathStep}
 use Rattle.affine_form.specs.Form.{IsSmallForm, variables}
-use Rattle.affine_form.specs.Rows.{IsSmallOver, step_of, variables_from, widened, within_rows}
+use Rattle.affine_form.specs.Rows.{IsSmallOver, variables_from, widened, within_rows}
 use Rattle.affine_form.proofs.Combination.{form_value-constant}
 use Rattle.affine_form.proofs.Meaning.{form_value-variable}
 use Rattle.affine_form.proofs.RowLemmas.{length-variables}
-use Rattle.affine_program.specs.Domain.{domain_rows}
+use Rattle.affine_program.specs.Domain.{domain_rows, guards_at}
 use Rattle.flow_deps.specs.Answers.{HasShortAnswer, Question, following}
 use Rattle.projective.specs.Projective.{Assumes, HoldsOfOne}
+use Rattle.projective.proofs.Facts.{rows-bare}
 use Rattle.projective.proofs.NestRows.{AreWorth, at, less, parameters-kept, variables-worth, within-each, within-picked, worth-same}
 use Rattle.projective.proofs.Picked.{IsPicked, IsWorth, Worth, picked-left, picked-none, picked-right, picked-shows, picked-wide, worth_sum}
 use Rattle.projective.proofs.ProjectiveFacts.{runs-to}
@@ -58,7 +58,7 @@ module _ (r : NamedLoops) where
   ends-at level point below = ends-run r.program (p r) r.run.bounds r.below level point (omega arith) r.run.run (omega (arith, below, way-many r))
 
   abbrev inner_ends : ℕ → Worth
-  inner_ends = ends_of (map step_of (nest r))
+  inner_ends = ends_of (nest r)
 
   inner-at : (k : ℕ) (point : List ℤ) → k < length r.loops → inner_ends k point ≡ at (parameter_of (get_or r.loops k 0)) point +ℤ negsuc 0
   inner-at k point below =
@@ -69,11 +69,11 @@ module _ (r : NamedLoops) where
 
   nest-picked : (k : ℕ) → k < length r.loops → IsPicked (system r).rows (at (p r + k) ∷ less (inner_ends k) (at (p r + k)) ∷ [])
   nest-picked k below =
-      picked-right (map (widened (vars r)) r.program.assumptions) (within_rows (vars r) (map step_of (nest r)) (variables_from (vars r) 0 (p r)) (variables_from (vars r) (p r) (length (nest r))))
+      picked-right (map (widened (vars r)) r.program.assumptions) (within_rows (vars r) (nest r) (variables_from (vars r) 0 (p r)) (variables_from (vars r) (p r) (length (nest r))))
       (at (p r + k) ∷ less (inner_ends k) (at (p r + k)) ∷ [])
-      (within-picked (vars r) (p r) (map step_of (nest r)) (variables_from (vars r) 0 (p r)) (variables_from (vars r) (p r) (length (nest r))) inner_ends (λ j. at (p r + j)) k
-      (runs-to r.program (p r) (map step_of (nest r)) (omega arith) (run-all r.program (p r) (nest r) (ps r) (runs r))) (parameters-kept (vars r) (p r) (omega arith))
-      (variables-worth (vars r) (p r) (length (nest r)) (omega arith)) (omega (arith, below, size r, length-map (nest r) step_of)) (omega (arith, below, size r, length-variables (vars r) (p r) (length (nest r)))))
+      (within-picked (vars r) (p r) (nest r) (variables_from (vars r) 0 (p r)) (variables_from (vars r) (p r) (length (nest r))) inner_ends (λ j. at (p r + j)) k
+      (runs-to r.program (p r) (nest r) (omega arith) (run-all r.program (p r) (nest r) (ps r) (runs r))) (parameters-kept (vars r) (p r) (omega arith))
+      (variables-worth (vars r) (p r) (length (nest r)) (omega arith)) (omega (arith, below, size r)) (omega (arith, below, size r, length-variables (vars r) (p r) (length (nest r)))))
 
   assumption-picked : (level : ℕ) → level < d r → HasRow (system r).rows (parameter_of level)
   assumption-picked level below =
@@ -84,7 +84,7 @@ module _ (r : NamedLoops) where
       record {
         rest = row.rest;
         small = row.small;
-        picked = picked-left (map (widened (vars r)) r.program.assumptions) (within_rows (vars r) (map step_of (nest r)) (variables_from (vars r) 0 (p r)) (variables_from (vars r) (p r) (length (nest r))))
+        picked = picked-left (map (widened (vars r)) r.program.assumptions) (within_rows (vars r) (nest r) (variables_from (vars r) 0 (p r)) (variables_from (vars r) (p r) (length (nest r))))
             (λ point. at (parameter_of level) point +ℤ negsuc row.rest) (picked-wide (vars r) r.program.assumptions ((λ point. at (parameter_of level) point +ℤ negsuc row.rest) ∷ []) row.picked);
       }
 
@@ -116,7 +116,7 @@ module _ (r : NamedLoops) where
     | inr others ↦ assumption others (assumption-picked level below)
   ] where
     below : level < d r
-    below = omega (arith, inside, length-map r.run.bounds step_of, way-many r)
+    below = omega (arith, inside, way-many r)
 
     assumption : AllByRecursion (λ (l : ℕ). l ≢ level) r.loops → HasRow (system r).rows (parameter_of level) → HasShortAnswer (asks goal)
     assumption others row =
@@ -128,9 +128,11 @@ module _ (r : NamedLoops) where
           back n = omega (arith, ints)
 
   -- that the instances are in their domain has short answers
-  pub inside-short : AllByRecursion HasShortAnswer (following (system r) (domain_rows r.program r.statement (vars r) (variables_from (vars r) 0 (p r)) (values r)))
-  inside-short =
-      subst (λ (path : List PathStep). AllByRecursion HasShortAnswer (following (system r) (within_rows (vars r) path (variables_from (vars r) 0 (p r)) (values r)))) r.run.path
+  pub inside-short : guards_at r.program r.statement ≡ [] → AllByRecursion HasShortAnswer (following (system r) (domain_rows r.program r.statement (vars r) (variables_from (vars r) 0 (p r)) (values r)))
+  inside-short bare =
+      subst (λ (goals : List AffineForm). AllByRecursion HasShortAnswer (following (system r) goals))
+      (ap (λ (loops : List (AffineForm × AffineForm)). within_rows (vars r) loops (variables_from (vars r) 0 (p r)) (values r)) r.run.around
+      ∙ sym (rows-bare r.program r.statement (vars r) (variables_from (vars r) 0 (p r)) (values r) bare))
       (All-map HasShortAnswer asks (within_rows (vars r) (way r) (variables_from (vars r) 0 (p r)) (values r))
       (within-each (λ goal. HasShortAnswer (asks goal)) (vars r) (p r) (way r) (variables_from (vars r) 0 (p r)) (values r) ends w
       (runs-to r.program (p r) (way r) (omega arith) (run-all r.program (p r) r.run.bounds r.below r.run.run)) (parameters-kept (vars r) (p r) (omega arith)) values-are

@@ -7,12 +7,12 @@ use Rattle.std.proofs.lemmas.List.{length-append, length-map}
 use Rattle.std.proofs.lemmas.List.FromFn.{length-range_with_len}
 use Rattle.base_laws.proofs.Lists.{All-append, All-at, All-weaken}
 use Rattle.iolb_model.specs.Form.{AffineForm}
-use Rattle.iolb_model.specs.Path.{PathStep}
 use Rattle.iolb_model.specs.Program.{AffineProgram}
 use Rattle.affine_form.specs.Form.{variables}
-use Rattle.affine_form.specs.Rows.{BoundsFit, IsSmallOver, step_of, variable, variables_from, widened, within_rows}
+use Rattle.affine_form.specs.Rows.{BoundsFit, IsSmallOver, variable, variables_from, widened, within_rows}
 use Rattle.affine_form.specs.System.{AffineSystem, AllOver}
-use Rattle.affine_form.proofs.RowLemmas.{length-variables, variables-over, within_rows-many, within_rows-over}
+use Rattle.affine_form.proofs.Meaning.{length-within_rows}
+use Rattle.affine_form.proofs.RowLemmas.{length-variables, variables-over, within_rows-over}
 use Rattle.affine_program.specs.Domain.{depth_of}
 use Rattle.claims.proofs.Rows.{widened-over}
 use Rattle.domain_count.specs.Count.{rows_before}
@@ -70,8 +70,8 @@ module _ (r : NamedLoops) where
   abbrev pub d : ℕ
   d = depth_of r.program r.statement
 
-  abbrev pub way : List PathStep
-  way = map step_of r.run.bounds
+  abbrev pub way : List (AffineForm × AffineForm)
+  way = r.run.bounds
 
   abbrev pub ps : List ℕ
   ps = parameters_of r.below r.loops
@@ -94,7 +94,7 @@ module _ (r : NamedLoops) where
   size = nest-many p ps ∙ ps-many
 
   pub way-many : length r.run.bounds ≡ d
-  way-many = sym (length-map r.run.bounds step_of) ∙ ap length r.run.path
+  way-many = ap length r.run.around
 
   pub below-many : length r.below ≡ d
   below-many = run-many r.program p r.run.bounds r.below r.run.run ∙ way-many
@@ -119,7 +119,7 @@ module _ (r : NamedLoops) where
   wide = map (widened vars) r.program.assumptions
 
   abbrev inner : List AffineForm
-  inner = within_rows vars (map step_of nest) (variables_from vars 0 p) (variables_from vars p (length nest))
+  inner = within_rows vars nest (variables_from vars 0 p) (variables_from vars p (length nest))
 
   pub rows-over : AllOver vars system.rows
   rows-over =
@@ -135,7 +135,7 @@ module _ (r : NamedLoops) where
         length-append wide inner,
         length-map r.program.assumptions (widened vars),
         r.room.assumptions,
-        within_rows-many vars nest (variables_from vars 0 p) (variables_from vars p (length nest)) (length-variables vars p (length nest)),
+        length-within_rows vars nest (variables_from vars 0 p) (variables_from vars p (length nest)) (length-variables vars p (length nest)),
         size,
         r.few,
         r.room.depth,

@@ -11,7 +11,7 @@ use Rattle.iolb_model.specs.Form.{AffineForm}
 use Rattle.iolb_model.specs.Program.{Direction, upward as up, AffineProgram}
 use Rattle.affine_form.specs.Combination.{constant_form}
 use Rattle.affine_form.specs.Form.{variables}
-use Rattle.affine_form.specs.Rows.{IsSmallOver, step_of, variable, widened}
+use Rattle.affine_form.specs.Rows.{IsSmallOver, variable, widened}
 use Rattle.affine_form.specs.Substitution.{substitution, values_at}
 use Rattle.affine_form.specs.System.{AllOver}
 use Rattle.affine_form.proofs.Combination.{form_value-constant}
@@ -204,7 +204,7 @@ module _ (program : AffineProgram) (below : List ℕ) where
   module _ (statement : ℕ) (upward : (loop : ℕ) → direction_at program statement loop ≡ up) (all : List ℕ) where
     pub nest-along : (bounds : List (AffineForm × AffineForm)) (rest loops : List ℕ) (count : ℕ) → RunBelow program (p + count) bounds rest → ((i : ℕ) → get_or rest i 0 ≡ get_or below (count + i) 0)
         → AllByRecursion (λ (loop : ℕ). loop < count) loops
-        → nest_along program statement all count (map step_of bounds) (state_after loops count) ≡ state_after (loops ++ filter (is_named all) (range_with_len count (length bounds))) (count + length bounds)
+        → nest_along program statement all count bounds (state_after loops count) ≡ state_after (loops ++ filter (is_named all) (range_with_len count (length bounds))) (count + length bounds)
     nest-along [] rest loops count run same rises =
         ap (λ (ns : List ℕ). state_after ns count) (sym (append-nil loops)) ∙ ap (state_after (loops ++ [])) (none count) where
           none : (n : ℕ) → n ≡ n + 0
@@ -237,20 +237,20 @@ module _ (program : AffineProgram) (below : List ℕ) where
           is = λ i. (run.0.lower i, run.0.upper i)
 
           by : (found : Bool) → is_named all count ≡ found
-              → ((ns : List ℕ) → AllByRecursion (λ (loop : ℕ). loop < count + 1) ns → nest_along program statement all (count + 1) (map step_of bounds) (state_after ns (count + 1)) ≡ state_after (ns ++ later) (count + suc (length bounds)))
-              → nest_along program statement all (count + 1) (map step_of bounds) (into_loop program (is_named all count) (direction_at program statement count) (state_after loops count) (step_of b))
+              → ((ns : List ℕ) → AllByRecursion (λ (loop : ℕ). loop < count + 1) ns → nest_along program statement all (count + 1) bounds (state_after ns (count + 1)) ≡ state_after (ns ++ later) (count + suc (length bounds)))
+              → nest_along program statement all (count + 1) bounds (into_loop program (is_named all count) (direction_at program statement count) (state_after loops count) b)
               ≡ state_after (loops ++ filter (is_named all) (range_with_len count (suc (length bounds)))) (count + suc (length bounds))
           by true e next =
-              ap (λ (c : Bool). nest_along program statement all (count + 1) (map step_of bounds) (into_loop program c (direction_at program statement count) (state_after loops count) (step_of b))) e
-              ∙ ap (λ (c : AffineForm × AffineForm). nest_along program statement all (count + 1) (map step_of bounds) (with_variable program (state_after loops count) c.0 c.1)) is
-              ∙ ap (nest_along program statement all (count + 1) (map step_of bounds)) (variable-more loops count q run.0.there here rises)
+              ap (λ (c : Bool). nest_along program statement all (count + 1) bounds (into_loop program c (direction_at program statement count) (state_after loops count) b)) e
+              ∙ ap (λ (c : AffineForm × AffineForm). nest_along program statement all (count + 1) bounds (with_variable program (state_after loops count) c.0 c.1)) is
+              ∙ ap (nest_along program statement all (count + 1) bounds) (variable-more loops count q run.0.there here rises)
               ∙ next (loops ++ count ∷ []) (All-push (λ (loop : ℕ). loop < count + 1) loops count farther (omega arith))
               ∙ ap (λ (ns : List ℕ). state_after ns (count + suc (length bounds))) (append_assoc loops (count ∷ []) later)
               ∙ ap (λ (c : Bool). state_after (loops ++ cond c (count ∷ later) later) (count + suc (length bounds))) (sym e)
           by false e next =
-              ap (λ (c : Bool). nest_along program statement all (count + 1) (map step_of bounds) (into_loop program c (direction_at program statement count) (state_after loops count) (step_of b))) e
-              ∙ ap (λ (d : Direction). nest_along program statement all (count + 1) (map step_of bounds) (with_first program (state_after loops count) (first_bound d (step_of b)))) (upward count)
-              ∙ ap (λ (c : AffineForm × AffineForm). nest_along program statement all (count + 1) (map step_of bounds) (with_first program (state_after loops count) c.0)) is
-              ∙ ap (nest_along program statement all (count + 1) (map step_of bounds)) (first-more loops count rises)
+              ap (λ (c : Bool). nest_along program statement all (count + 1) bounds (into_loop program c (direction_at program statement count) (state_after loops count) b)) e
+              ∙ ap (λ (d : Direction). nest_along program statement all (count + 1) bounds (with_first program (state_after loops count) (first_bound d b))) (upward count)
+              ∙ ap (λ (c : AffineForm × AffineForm). nest_along program statement all (count + 1) bounds (with_first program (state_after loops count) c.0)) is
+              ∙ ap (nest_along program statement all (count + 1) bounds) (first-more loops count rises)
               ∙ next loops farther
               ∙ ap (λ (c : Bool). state_after (loops ++ cond c (count ∷ later) later) (count + suc (length bounds))) (sym e)

@@ -8,8 +8,7 @@ use Rattle.std.proofs.lemmas.List.{length-map}
 use Rattle.iolb_model.specs.Bound.{count_value, events_of, labels_of, points_of, term_value}
 use Rattle.iolb_model.specs.Form.{AffineForm}
 use Rattle.iolb_model.specs.Program.{Access, AffineProgram, read_at, statement_at}
-use Rattle.affine_form.specs.Rows.{step_of}
-use Rattle.affine_program.specs.Domain.{path_of}
+use Rattle.affine_program.specs.Domain.{bounds_at}
 use Rattle.affine_c.specs.Products.{product_program}
 use Rattle.cover_lp.specs.Cover.{IsPair, weight_at}
 use Rattle.cover_lp.proofs.Duality.{one-total}
@@ -59,7 +58,7 @@ one = product_program 1
 apart : pos 0 ≡ pos 1 → ⊥
 apart e = cc
 
-runs : AllRun one 1 (path_of one 0)
+runs : AllRun one 1 (bounds_at one 0)
 runs = (
   (0, record { there = omega arith; lower = refl; upper = refl; assumed = inl (refl, omega (arith, ints)) }),
   (
@@ -75,7 +74,8 @@ differ place form other is missing e = apart (sym missing ∙ ap (λ (f : Affine
 is-projective : IsProjective one
 is-projective = record {
   one = refl;
-  loops = record { some = omega arith; nest = tt; loops = runs };
+  unguarded = refl;
+  loops = record { some = omega arith; nest = inr (inr (inr (inr (tt, tt), tt), tt), tt); loops = runs };
   projects = record {
     few = omega arith;
     accumulates = inl refl;
@@ -162,7 +162,7 @@ cube-is total ps are = product-is total ps cube_tree cube-legal (λ f. product-v
 module _ (trees : List (List SelectionTree)) (q : ℕ) (weights : List ℕ) (term : PartitionTerm) (is : IsWholeTerm one trees q weights term) (two : q ≡ 2) (are : weights ≡ ones) (bound : PartitionBound)
     (valued : IsPartitionValue one term bound) where
   three : length term.nest ≡ 3
-  three = sym (length-map term.nest step_of) ∙ ap length is.nest
+  three = ap length is.nest
 
   count-is : bound.count ≡ whole cube_tree
   count-is =

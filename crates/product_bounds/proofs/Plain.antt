@@ -17,7 +17,7 @@ use Rattle.find_terms.specs.Openings.{AreNamed, HasPlainRead}
 use Rattle.product_bounds.specs.InputReads.{LoopsRunBelow}
 use Rattle.product_bounds.proofs.InputReads.{input-plain}
 use Rattle.product_bounds.proofs.NamedLoops.{HasRoom}
-use Rattle.product_bounds.proofs.Programs.{runs-upward, first-read, no-writer, path-is, second-read, statement-is}
+use Rattle.product_bounds.proofs.Programs.{bounds-are, runs-upward, first-read, no-guards, no-writer, second-read, statement-is}
 use Rattle.product_bounds.proofs.Squares.{parameters}
 
 module _ (n : ℕ) where
@@ -27,7 +27,7 @@ module _ (n : ℕ) where
   -- ---- loops
 
   pub depth : (q : ℕ) → q < n → depth_of program q ≡ 3
-  depth q below = ap length (path-is n q below)
+  depth q below = ap length (bounds-are n q below)
 
   pub room : (q : ℕ) → q < n → HasRoom program q
   room q below = record {
@@ -40,7 +40,7 @@ module _ (n : ℕ) where
   pub runs : (q : ℕ) → q < n → LoopsRunBelow program q (parameters 3)
   runs q below = record {
     bounds = (first_value 0, last_value 0) ∷ (first_value 1, last_value 1) ∷ (first_value 2, last_value 2) ∷ [];
-    path = sym (path-is n q below);
+    around = sym (bounds-are n q below);
     run = (
       record { there = omega arith; lower = refl; upper = refl; assumed = inl (refl, omega (arith, ints)) },
       (
@@ -64,7 +64,7 @@ module _ (n : ℕ) where
       → access.subscripts ≡ map (λ (loop : ℕ). variable (1 + 3) (1 + loop)) loops → AllByRecursion (λ (loop : ℕ). loop < 3) loops → IsDistinct nat_eq loops → access.array ≡ array
       → writers program array ≡ [] → HasPlainRead program array
   plain alloc q r array access loops below less is subscripts there different reads unwritten =
-      (reader, ap (λ (a : Access). a.array) is ∙ reads, input-plain program reader loops (parameters 3) named (runs q below) (room q below) alloc (reads-there q r below less) (ap (λ (a : Access). writers program a.array) is ∙ ap (writers program) reads ∙ unwritten)) where
+      (reader, ap (λ (a : Access). a.array) is ∙ reads, input-plain program reader loops (parameters 3) named (runs q below) (room q below) alloc (reads-there q r below less) (ap (λ (a : Access). writers program a.array) is ∙ ap (writers program) reads ∙ unwritten) (no-guards n q below)) where
         reader : ReadOf
         reader = record { statement = q; read = r }
 

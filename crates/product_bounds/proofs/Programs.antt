@@ -1,83 +1,34 @@
 -- The statements of a program of matrix products, and what is around them.
-use Rattle.std.proofs.Common.{◌≡◌, ◌≢◌, refl, ◌∙◌, ap, ℕ, zero, suc, ◌+◌, ◌*◌, ◌<◌, ◌≤◌, Bool, true, false, List, [], ◌∷◌, map, get_or, arith}
-use Rattle.std.specs.Prelude.{◌==◌, ◌&&◌, if◌then◌else◌, is_some, Option, Some, None, option_map, unwrap_or}
+use Rattle.std.proofs.Common.{◌≡◌, ◌≢◌, refl, ◌∙◌, ap, ℕ, zero, suc, ◌+◌, ◌*◌, ◌<◌, Bool, true, false, List, [], ◌∷◌, length, map, get_or, arith}
+use Rattle.std.specs.Prelude.{◌==◌, if◌then◌else◌, Option, unwrap_or}
 use Rattle.std.specs.List.{range_with_len}
-use Rattle.std.proofs.lemmas.Bool.{eq-eqb, eqb-true}
-use Rattle.iolb_model.specs.Path.{PathStep, bounded, first_of, row_path}
-use Rattle.iolb_model.specs.Order.{row_common}
+use Rattle.std.proofs.lemmas.Bool.{eqb-true}
+use Rattle.iolb_model.specs.Path.{PathStep, bounds_on, guards_on}
 use Rattle.iolb_model.specs.Program.{Direction, upward, Statement, no_statement, statement_at}
-use Rattle.affine_program.specs.Domain.{path_of}
-use Rattle.affine_program.specs.Tree.{row_from}
-use Rattle.affine_c.specs.Products.{first_value, last_value, matrix_cell, product_nest, product_program, product_statement}
+use Rattle.affine_form.specs.Rows.{widened}
+use Rattle.affine_program.specs.Domain.{bounds_at, guards_at, path_of}
+use Rattle.affine_c.proofs.ProductPrograms.{directions, product_path, ways}
+use Rattle.affine_c.specs.Products.{matrix_cell, product_program, product_statement}
 use Rattle.dep_quast.specs.Context.{reference_of}
 use Rattle.flow_deps.specs.Candidates.{direction_at}
 use Rattle.dep_quast.specs.Levels.{writers, writers_from}
 
--- the loops i, j and k
-abbrev pub product_path : List PathStep
-product_path = bounded (first_value 0) (last_value 0) ∷ bounded (first_value 1) (last_value 1) ∷ bounded (first_value 2) (last_value 2) ∷ []
-
 -- ---- the way to a statement
 
--- into the nest of a product, by whether its statement is looked for
-abbrev way_if : Bool → Option (List PathStep)
-way_if found = option_map (λ path. bounded (first_value 0) (last_value 0) ∷ path)
-    (first_of (option_map (λ path. bounded (first_value 1) (last_value 1) ∷ path)
-    (first_of (option_map (λ path. bounded (first_value 2) (last_value 2) ∷ path) (first_of (if found then Some [] else None) None)) None)) None)
+path-is : (n q : ℕ) → q < n → path_of (product_program n) q ≡ product_path
+path-is n q below = ap (λ (way : Option (List PathStep)). unwrap_or way []) (ways 0 n q (omega arith) (omega (arith, below)))
 
-way-in : (count first q : ℕ) → first ≤ q → q < first + count → row_path (row_from (map product_nest (range_with_len first count))) q ≡ Some product_path
-way-in zero first q above below = absurd (omega (arith, above, below))
-way-in (suc count) first q above below = by (first == q) refl (λ up less. way-in count (first + 1) q up less) where
-  rest : Option (List PathStep)
-  rest = row_path (row_from (map product_nest (range_with_len (first + 1) count))) q
+pub bounds-are : (n q : ℕ) → q < n → bounds_at (product_program n) q ≡ bounds_on product_path
+bounds-are n q below = ap bounds_on (path-is n q below)
 
-  by : (found : Bool) → (first == q) ≡ found → (first + 1 ≤ q → q < first + 1 + count → rest ≡ Some product_path) → first_of (way_if (first == q)) rest ≡ Some product_path
-  by true e later = ap (λ (b : Bool). first_of (way_if b) rest) e
-  by false e later =
-      let differs : first ≢ q = λ same. apart (first == q) e (eq-eqb first q same) in
-      ap (λ (b : Bool). first_of (way_if b) rest) e ∙ later (omega (arith, above, differs)) (omega (arith, below)) where
-        apart : (b : Bool) → b ≡ false → b ≡ true → ⊥
-        apart true x y = cc
-        apart false x y = cc
-
-pub path-is : (n q : ℕ) → q < n → path_of (product_program n) q ≡ product_path
-path-is n q below = ap (λ (way : Option (List PathStep)). unwrap_or way []) (way-in n 0 q (omega arith) (omega (arith, below)))
+pub no-guards : (n q : ℕ) → q < n → guards_at (product_program n) q ≡ []
+no-guards n q below =
+    ap (λ (path : List PathStep). map (widened (length (product_program n).parameters + length (bounds_on path))) (guards_on path)) (path-is n q below)
 
 -- ---- the loops around a statement run upward
 
--- whether the statement is in what is found
-abbrev there : Option (List PathStep) → Bool
-there way = is_some way && is_some way
-
--- the loops around it in the row that holds the nest and others, by whether its statement is looked for
-abbrev common_if : Bool → List Direction → List Direction
-common_if found others =
-    let within : Option (List PathStep) = first_of (if found then Some [] else None) None in
-    let inner : Option (List PathStep) = first_of (option_map (λ path. bounded (first_value 2) (last_value 2) ∷ path) within) None in
-    let outer : Option (List PathStep) = first_of (option_map (λ path. bounded (first_value 1) (last_value 1) ∷ path) inner) None in
-    if there (option_map (λ path. bounded (first_value 0) (last_value 0) ∷ path) outer)
-    then upward ∷ (if there (option_map (λ path. bounded (first_value 1) (last_value 1) ∷ path) inner)
-    then upward ∷ (if there (option_map (λ path. bounded (first_value 2) (last_value 2) ∷ path) within)
-    then upward ∷ (if there (if found then Some [] else None) then [] else []) else []) else [])
-    else others
-
-common-in : (count first q : ℕ) → first ≤ q → q < first + count → row_common (row_from (map product_nest (range_with_len first count))) q q ≡ upward ∷ upward ∷ upward ∷ []
-common-in zero first q above below = absurd (omega (arith, above, below))
-common-in (suc count) first q above below = by (first == q) refl (λ up less. common-in count (first + 1) q up less) where
-  others : List Direction
-  others = row_common (row_from (map product_nest (range_with_len (first + 1) count))) q q
-
-  by : (found : Bool) → (first == q) ≡ found → (first + 1 ≤ q → q < first + 1 + count → others ≡ upward ∷ upward ∷ upward ∷ []) → common_if (first == q) others ≡ upward ∷ upward ∷ upward ∷ []
-  by true e later = ap (λ (b : Bool). common_if b others) e
-  by false e later =
-      let differs : first ≢ q = λ same. apart (first == q) e (eq-eqb first q same) in
-      ap (λ (b : Bool). common_if b others) e ∙ later (omega (arith, above, differs)) (omega (arith, below)) where
-        apart : (b : Bool) → b ≡ false → b ≡ true → ⊥
-        apart true x y = cc
-        apart false x y = cc
-
 pub runs-upward : (n q : ℕ) → q < n → (loop : ℕ) → direction_at (product_program n) q loop ≡ upward
-runs-upward n q below loop = ap (λ (loops : List Direction). get_or loops loop upward) (common-in n 0 q (omega arith) (omega (arith, below))) ∙ each loop where
+runs-upward n q below loop = ap (λ (loops : List Direction). get_or loops loop upward) (directions 0 n q (omega arith) (omega (arith, below))) ∙ each loop where
   each : (k : ℕ) → get_or (upward ∷ upward ∷ upward ∷ []) k upward ≡ upward
   each zero = refl
   each (suc zero) = refl

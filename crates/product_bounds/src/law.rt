@@ -5,14 +5,14 @@ ghost use Rattle.product_bounds.specs.Openings.{OneProductIsCertified, ProductsH
 
 use std::alloc::Global;
 
-/// A law: a read of an array that no statement writes, whose subscripts name different loops, is plain, where the loops around its
-/// statement run from 0 to below parameters that are assumed to be at least 1.
+/// A law: a read of an array that no statement writes, whose subscripts name different loops, is plain, where no guard stands around
+/// its statement and the loops around it run upward from 0 to below parameters that are assumed to be at least 1.
 pub fn input_reads_are_plain(_alloc: Global)
     ensures { InputReadsArePlain }
 {}
 
-/// A law: where the loops around a statement run so, the opening term of a read counts the product of the parameters of the loops
-/// that the read's subscripts name.
+/// A law: where the loops around a statement run so, under guards or not, the opening term of a read counts the product of the
+/// parameters of the loops that the read's subscripts name.
 pub fn opening_terms_count_products()
     ensures { OpeningTermsCountProducts }
 {}

@@ -1,7 +1,7 @@
 -- What is said of a fault where certain words stand at its place.
 use Rattle.std.specs.Prelude.{ℕ, List, codes}
 use Rattle.program_messages.specs.declared.rules.Rule.{Rule}
-use Rattle.program_messages.specs.declared.rules.Rule.TheVariants.{Directive, Quotation, OpenComment, Cast, LoopType, Declaration, Choice, Operator, OtherLoop, Jump, Else, Step, Call, Member, Pointer, Product, Quotient, Minimum, CallInForm, CellInForm, OtherWay, TooDeep}
+use Rattle.program_messages.specs.declared.rules.Rule.TheVariants.{Directive, Quotation, OpenComment, Cast, LoopType, Declaration, Choice, Operator, OtherLoop, Jump, Else, Step, Call, Member, Pointer, Product, Quotient, Minimum, CallInForm, CellInForm, OtherWay, TooDeep, OtherBranch, Condition}
 
 -- the number of the fault that a rule is for
 abbrev pub fault_number : Rule → ℕ
@@ -27,6 +27,8 @@ fault_number CallInForm = 4
 fault_number CellInForm = 4
 fault_number OtherWay = 5
 fault_number TooDeep = 9
+fault_number OtherBranch = 12
+fault_number Condition = 12
 
 -- what is wrong
 abbrev pub rule_text : Rule → List ℕ
@@ -40,7 +42,7 @@ rule_text Choice = codes "`?:` isn't read"
 rule_text Operator = codes "this operator can't stand here"
 rule_text OtherLoop = codes "only `for` loops are read"
 rule_text Jump = codes "a program that is read has no jumps"
-rule_text Else = codes "an `else` isn't read"
+rule_text Else = codes "an `else` can't stand here"
 rule_text Step = codes "this can't stand here; `x++` and `x--` are no statements that are read"
 rule_text Call = codes "a call is no statement that is read"
 rule_text Member = codes "a member of a struct isn't read"
@@ -52,6 +54,8 @@ rule_text CallInForm = codes "a call can't stand in a bound or a subscript"
 rule_text CellInForm = codes "a cell of an array can't stand in a bound or a subscript"
 rule_text OtherWay = codes "the loop steps the other way than its comparison"
 rule_text TooDeep = codes "more than 6 loops are nested"
+rule_text OtherBranch = codes "an `else` isn't read"
+rule_text Condition = codes "the condition of this `if` isn't affine"
 
 -- what to write instead
 abbrev pub rule_help : Rule → List ℕ
@@ -65,7 +69,7 @@ rule_help Choice = codes "write a function of what it reads, as `f(a, b, c)`: a 
 rule_help Operator = codes "write a function of what it reads, as `f(a, b, c)`: a value counts only by its references"
 rule_help OtherLoop = codes "write `for (int t = 0; t < T_STEPS; t++)`, with a parameter for the number of turns"
 rule_help Jump = codes "bound the loops as they run to their ends"
-rule_help Else = codes "split the loop where the condition changes"
+rule_help Else = codes "write a second `if`, with the opposite condition: where `i < N` isn't so, `i >= N` is"
 rule_help Step = codes "write `x += 1;`"
 rule_help Call = codes "write an assignment of what it computes, as `y[i] = f(x[i]);`"
 rule_help Member = codes "write an array of its own for each member"
@@ -77,3 +81,5 @@ rule_help CallInForm = codes "name its value as a parameter"
 rule_help CellInForm = codes "only loops, parameters and numbers may tell which cell is meant: bound a program that reads them in the order of the loops"
 rule_help OtherWay = codes "write `<` or `<=` with `i++`, and `>` or `>=` with `i--`"
 rule_help TooDeep = codes "bound an inner part of the nest, with the outer loops as parameters"
+rule_help OtherBranch = codes "write a second `if`, with the opposite condition: where `i < N` isn't so, `i >= N` is"
+rule_help Condition = codes "compare sums of loops and parameters, each times a number, and join the comparisons by `&&`"

@@ -28,7 +28,7 @@ pub enum Rule {
     OtherLoop,
     /// A jump.
     Jump,
-    /// An `else`.
+    /// An `else` that isn't behind an `if`.
     Else,
     /// `x++` or `x--` as a statement.
     Step,
@@ -52,6 +52,10 @@ pub enum Rule {
     OtherWay,
     /// A loop inside too many others.
     TooDeep,
+    /// An `else`.
+    OtherBranch,
+    /// An `if` whose condition isn't affine.
+    Condition,
 }
 
 /// The words that begin a declaration.
@@ -60,6 +64,9 @@ pub(crate) const TYPES: &str =
 
 const FUNCTION: &str =
     "write a function of what it reads, as `f(a, b, c)`: a value counts only by its references";
+
+const OTHER_IF: &str =
+    "write a second `if`, with the opposite condition: where `i < N` isn't so, `i >= N` is";
 
 impl Rule {
     /// What is wrong.
@@ -81,7 +88,7 @@ impl Rule {
             Rule::Operator => "this operator can't stand here",
             Rule::OtherLoop => "only `for` loops are read",
             Rule::Jump => "a program that is read has no jumps",
-            Rule::Else => "an `else` isn't read",
+            Rule::Else => "an `else` can't stand here",
             Rule::Step => "this can't stand here; `x++` and `x--` are no statements that are read",
             Rule::Call => "a call is no statement that is read",
             Rule::Member => "a member of a struct isn't read",
@@ -93,6 +100,8 @@ impl Rule {
             Rule::CellInForm => "a cell of an array can't stand in a bound or a subscript",
             Rule::OtherWay => "the loop steps the other way than its comparison",
             Rule::TooDeep => "more than 6 loops are nested",
+            Rule::OtherBranch => "an `else` isn't read",
+            Rule::Condition => "the condition of this `if` isn't affine",
         }
     }
 
@@ -115,7 +124,7 @@ impl Rule {
                 "write `for (int t = 0; t < T_STEPS; t++)`, with a parameter for the number of turns"
             }
             Rule::Jump => "bound the loops as they run to their ends",
-            Rule::Else => "split the loop where the condition changes",
+            Rule::Else | Rule::OtherBranch => OTHER_IF,
             Rule::Step => "write `x += 1;`",
             Rule::Call => "write an assignment of what it computes, as `y[i] = f(x[i]);`",
             Rule::Member => "write an array of its own for each member",
@@ -135,6 +144,9 @@ impl Rule {
             }
             Rule::OtherWay => { "write `<` or `<=` with `i++`, and `>` or `>=` with `i--`" }
             Rule::TooDeep => "bound an inner part of the nest, with the outer loops as parameters",
+            Rule::Condition => {
+                "compare sums of loops and parameters, each times a number, and join the comparisons by `&&`"
+            }
         }
     }
 }
@@ -225,6 +237,8 @@ pub(crate) fn rule_for(number: u8, word: &[u8]) -> Option<Rule>
         4 => form_rule(word),
         5 if is_listed("OTHERWAY", word) => Some(Rule::OtherWay),
         9 if is_listed("for", word) => Some(Rule::TooDeep),
+        12 if is_listed("else", word) => Some(Rule::OtherBranch),
+        12 if is_listed("if", word) => Some(Rule::Condition),
         _ => None,
     }
 }

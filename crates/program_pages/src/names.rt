@@ -43,6 +43,7 @@ fn names_of(
             let inner = with_name(alloc, names, name)?;
             names_in(alloc, body, statement, inner.as_slice())
         }
+        Item::Guard { body, .. } => names_in(alloc, body, statement, names),
     }
 }
 

@@ -31,6 +31,7 @@ pub fn write_program(
         source,
         program,
         program.params(),
+        &[],
         program.tree(),
     )
 }

@@ -2,14 +2,13 @@
 
 ghost use Rattle.std.specs.Prelude.{length, map};
 ghost use Rattle.std.specs.List.{AllByRecursion};
-ghost use Rattle.iolb_model.specs.Program.{AccessFits, ItemFits, RowFits, StatementFits};
+ghost use Rattle.iolb_model.specs.Program.{AccessFits, IsOver, ItemFits, RowFits, StatementFits};
 ghost use Rattle.affine_program.specs.Parts.{access_of, meaning};
 ghost use Rattle.affine_program.specs.Tree.{item_of, row_of};
 
-use crate::arrays::write_names;
 use crate::places::Places;
 use crate::references::write_reference;
-use affine_form::{Memory, Name};
+use affine_form::{Form, Memory, Name};
 use affine_program::{Item, Program, Reference, with_name};
 use plain_pages::{Page, position_of};
 use std::alloc::Global;
@@ -65,12 +64,65 @@ fn write_reads(
     Ok(())
 }
 
-/// Writes the statement of this number, with its reads.
+/// Writes the names of loops with commas between them, and which run downward, or `none`.
+fn write_loops(page: &mut Page, names: &[Name], down: &[bool]) -> Result<(), Memory> {
+    if names.is_empty() {
+        page.text("none")?;
+    }
+    for (number, (name, falls)) in names.iter().zip(down.iter()).enumerate() {
+        if number > 0 {
+            page.text(", ")?;
+        }
+        page.write_bytes(name.bytes())?;
+        if *falls {
+            page.text(" downward")?;
+        }
+    }
+    Ok(())
+}
+
+/// Writes the rows of guards, each on a line.
+fn write_guards(page: &mut Page, guards: &[Vec<u8>]) -> Result<(), Memory> {
+    for text in guards {
+        page.text("    where ")?;
+        page.write_bytes(text.as_slice())?;
+        page.line(" >= 0")?;
+    }
+    Ok(())
+}
+
+/// Copies of texts.
+fn copied(alloc: Global, texts: &[Vec<u8>]) -> Result<Vec<Vec<u8>>, Memory> {
+    let mut all = Vec::new(alloc);
+    for text in texts {
+        all.push(Vec::from_slice(alloc, text.as_slice())?)?;
+    }
+    Ok(all)
+}
+
+/// The texts of the rows of guards, and those of one more.
+fn with_guard(
+    alloc: Global,
+    guards: &[Vec<u8>],
+    names: &[Name],
+    rows: &[Form],
+) -> Result<Vec<Vec<u8>>, Memory>
+    requires { AllByRecursion (IsOver (length names.now)) rows.now }
+{
+    let mut all = copied(alloc, guards)?;
+    for row in rows {
+        all.push(row.text(alloc, names)?)?;
+    }
+    Ok(all)
+}
+
+/// Writes the statement of this number, with the rows of the guards round it and its reads.
 fn write_statement(
     page: &mut Page,
     source: Source<'_>,
     program: &Program,
     names: &[Name],
+    guards: &[Vec<u8>],
     number: u16,
 ) -> Result<(), Memory>
     requires { StatementFits (meaning program.now) (length names.now) number }
@@ -82,11 +134,10 @@ fn write_statement(
     page.text(" writes ")?;
     write_reference(page, program, names, &statement.writes)?;
     page.text(", loops: ")?;
-    match names.get(program.params().len()..) {
-        Some(loops) => write_names(page, loops)?,
-        None => write_names(page, &[])?,
-    }
+    let loops = names.get(program.params().len()..).unwrap_or(&[]);
+    write_loops(page, loops, statement.down.as_slice())?;
     page.line("")?;
+    write_guards(page, guards)?;
     write_reads(
         page,
         source,
@@ -97,7 +148,7 @@ fn write_statement(
     )
 }
 
-/// Writes the statements of items in a row.
+/// Writes the statements of items in a row, round which are guards whose rows have these texts.
 #[cycle(walk)]
 pub(crate) fn write_items(
     alloc: Global,
@@ -105,12 +156,13 @@ pub(crate) fn write_items(
     source: Source<'_>,
     program: &Program,
     names: &[Name],
+    guards: &[Vec<u8>],
     items: &[Item],
 ) -> Result<(), Memory>
     requires { RowFits (meaning program.now) (length names.now) (row_of items.now) }
 {
     for item in items {
-        write_item(alloc, page, source, program, names, item)?;
+        write_item(alloc, page, source, program, names, guards, item)?;
     }
     Ok(())
 }
@@ -123,15 +175,20 @@ fn write_item(
     source: Source<'_>,
     program: &Program,
     names: &[Name],
+    guards: &[Vec<u8>],
     item: &Item,
 ) -> Result<(), Memory>
     requires { ItemFits (meaning program.now) (length names.now) (item_of item.now) }
 {
     match item {
-        Item::Assign(number) => write_statement(page, source, program, names, *number),
+        Item::Assign(number) => write_statement(page, source, program, names, guards, *number),
         Item::Loop { name, body, .. } => {
             let inner = with_name(alloc, names, name)?;
-            write_items(alloc, page, source, program, inner.as_slice(), body)
+            write_items(alloc, page, source, program, inner.as_slice(), guards, body)
+        }
+        Item::Guard { rows, body } => {
+            let inner = with_guard(alloc, guards, names, rows)?;
+            write_items(alloc, page, source, program, names, inner.as_slice(), body)
         }
     }
 }

@@ -10,7 +10,7 @@ use Rattle.iolb_model.specs.Form.{AffineForm}
 use Rattle.iolb_model.specs.Program.{AffineProgram, statement_at, read_at}
 use Rattle.iolb_model.specs.declared.limits.TheConstants.{TREE_TESTS}
 use Rattle.affine_form.specs.Form.{variables}
-use Rattle.affine_form.specs.Rows.{IsSmallOver, step_of}
+use Rattle.affine_form.specs.Rows.{IsSmallOver}
 use Rattle.affine_form.proofs.RowLemmas.{length-difference}
 use Rattle.affine_program.specs.Domain.{depth_of}
 use Rattle.dep_quast.specs.Context.{ReadOf, variables_at, no_row}
@@ -29,10 +29,10 @@ use Rattle.projective.proofs.Fits.{shifted-fits}
 
 -- one loop more
 pub values-next : (program : AffineProgram) (loop place : ℕ) (bounds : List (AffineForm × AffineForm)) (pair : AffineForm × AffineForm) → place < length bounds → pair ≡ get_or bounds place pair
-    → turn_values program loop place (map step_of (drop place bounds)) ≡ turn_value program loop place pair.1 ∷ turn_values program loop (place + 1) (map step_of (drop (place + 1) bounds))
+    → turn_values program loop place (drop place bounds) ≡ turn_value program loop place pair.1 ∷ turn_values program loop (place + 1) (drop (place + 1) bounds)
 values-next program loop place bounds pair below is =
-    ap (λ (rest : List (AffineForm × AffineForm)). turn_values program loop place (map step_of rest)) (rest_at bounds place pair below is)
-    ∙ ap (λ (k : ℕ). turn_value program loop place pair.1 ∷ turn_values program loop k (map step_of (drop (place + 1) bounds))) next where
+    ap (λ (rest : List (AffineForm × AffineForm)). turn_values program loop place rest) (rest_at bounds place pair below is)
+    ∙ ap (λ (k : ℕ). turn_value program loop place pair.1 ∷ turn_values program loop k (drop (place + 1) bounds)) next where
       next : suc place ≡ place + 1
       next = omega arith
 

@@ -7,23 +7,24 @@ use Rattle.std.proofs.lemmas.List.{length-append, length-map}
 use Rattle.base_laws.proofs.Lists.{All-append, All-replicate, All-weaken, there}
 use Rattle.iolb_model.specs.Form.{AffineForm}
 use Rattle.iolb_model.specs.Order.{common_loops}
-use Rattle.iolb_model.specs.Path.{PathStep}
 use Rattle.iolb_model.specs.Program.{Direction, AffineProgram, statement_at}
 use Rattle.iolb_model.specs.declared.limits.TheConstants.{NUMBER_SIZE}
 use Rattle.reuse_paths.proofs.FamilyLabels.{ranks-few}
 use Rattle.flow_deps.proofs.SmallForms.{variable-small}
 use Rattle.affine_form.specs.Form.{variables, IsSmall}
 use Rattle.affine_form.specs.System.{AllOver}
-use Rattle.affine_form.specs.Rows.{IsSmallOver, IsSmallWithin, BoundsFit, widened, variable, variables_from, within_rows, equality_rows, put_in, order_rows, step_of}
-use Rattle.affine_form.proofs.RowLemmas.{length-widened, length-variables, variables-over, within_rows-many, within_rows-over, equality_rows-over, put_in-within, order_rows-over}
-use Rattle.affine_program.specs.Domain.{path_of, depth_of, domain_of, domain_rows}
+use Rattle.affine_form.specs.Rows.{IsSmallOver, IsSmallWithin, BoundsFit, widened, variable, variables_from, within_rows, equality_rows, put_in, order_rows}
+use Rattle.affine_form.proofs.RowLemmas.{length-widened, length-variables, variables-over, within_rows-over, equality_rows-over, put_in-within, order_rows-over}
+use Rattle.affine_form.proofs.Meaning.{length-within_rows}
+use Rattle.affine_program.specs.Domain.{bounds_at, depth_of, domain_of, domain_rows, guards_at}
 use Rattle.affine_program.specs.declared.statement.Statement.{Statement}
 use Rattle.affine_program.specs.Parts.{ProgramParts, IsProgram, meaning}
-use Rattle.affine_program.proofs.Bounds.{path-is, bounds-fit}
+use Rattle.affine_program.proofs.Bounds.{bounds-are, bounds-fit}
 use Rattle.dep_quast.specs.Context.{ReadOf, reference_of, context, parameter_point, reader_point, reader_values, writer_values, write_rows}
 use Rattle.dep_quast.proofs.Fits.{all-there, depth-few, written-over, fits-at, cells-many, within-more}
 use Rattle.claims.proofs.Rows.{widened-over}
 use Rattle.projective.specs.Projective.{shifted_variable}
+use Rattle.projective.proofs.Facts.{rows-bare}
 use Rattle.projective.specs.Turns.{width, is_kept, turn_value, turn_values, turn_before}
 
 pub shifted-fits : (vars place : ℕ) → IsSmallOver vars (shifted_variable vars place (negsuc 0))
@@ -64,14 +65,14 @@ module _ (parts : ProgramParts) (is : IsProgram parts) (some : 0 < length parts.
   abbrev pub bounds : List (AffineForm × AffineForm)
   bounds = (there parts.statements 0 some).0.bounds.items
 
-  pub path-steps : path_of program 0 ≡ map step_of bounds
-  path-steps = path-is parts 0 (there parts.statements 0 some).0 is some (there parts.statements 0 some).1
+  bounds-here : bounds_at program 0 ≡ bounds
+  bounds-here = bounds-are parts 0 (there parts.statements 0 some).0 is some (there parts.statements 0 some).1
 
   pub bounds-over : BoundsFit n bounds
   bounds-over = bounds-fit parts 0 (there parts.statements 0 some).0 is some (there parts.statements 0 some).1
 
   pub bounds-many : length bounds ≡ d
-  bounds-many = sym (length-map bounds step_of) ∙ sym (ap (λ (path : List PathStep). length path) path-steps)
+  bounds-many = sym (ap (λ (loops : List (AffineForm × AffineForm)). length loops) bounds-here)
 
   -- a bound that the code reads is over fewer variables
   bound-within : (many room : ℕ) (steps : List (AffineForm × AffineForm)) (k : ℕ) (pair : AffineForm × AffineForm) → BoundsFit many steps → k < length steps → pair ≡ get_or steps k pair
@@ -87,12 +88,12 @@ module _ (parts : ProgramParts) (is : IsProgram parts) (some : 0 < length parts.
       let here : at ≡ get_or parts.statements 0 at = is ∙ ap (λ (xs : List Statement). get_or xs 0 at) same in
       let fit : BoundsFit n read = subst (BoundsFit n) (sym lent) (bounds-fit parts 0 at is_program some here) in
       bound-within n vars read k pair fit below one
-      (omega (arith, ap (λ (xs : List (AffineForm × AffineForm)). length xs) lent, length-map at.bounds.items step_of, ap (λ (path : List PathStep). length path) (path-is parts 0 at is_program some here)))
+      (omega (arith, ap (λ (xs : List (AffineForm × AffineForm)). length xs) lent, ap (λ (loops : List (AffineForm × AffineForm)). length loops) (bounds-are parts 0 at is_program some here)))
 
-  pub steps-read : (table : List Statement) (at : Statement) (read : List (AffineForm × AffineForm)) → table ≡ parts.statements → at ≡ get_or table 0 at → read ≡ at.bounds.items
-      → path_of program 0 ≡ map step_of read
-  steps-read table at read same is lent =
-      path-is parts 0 at is_program some (is ∙ ap (λ (xs : List Statement). get_or xs 0 at) same) ∙ ap (map step_of) (sym lent)
+  pub loops-read : (table : List Statement) (at : Statement) (read : List (AffineForm × AffineForm)) → table ≡ parts.statements → at ≡ get_or table 0 at → read ≡ at.bounds.items
+      → bounds_at program 0 ≡ read
+  loops-read table at read same is lent =
+      bounds-are parts 0 at is_program some (is ∙ ap (λ (xs : List Statement). get_or xs 0 at) same) ∙ sym lent
 
   -- ---- the values one turn before
 
@@ -104,40 +105,41 @@ module _ (parts : ProgramParts) (is : IsProgram parts) (some : 0 < length parts.
     by false true = variable-small (width program) (length program.parameters + place)
     by false false = widened-fits many (width program) upper more h
 
-  values-fit : (loop place : ℕ) (many : ℕ) (steps : List (AffineForm × AffineForm)) → many + length steps ≤ vars → BoundsFit many steps → AllByRecursion (IsSmallOver vars) (turn_values program loop place (map step_of steps))
+  values-fit : (loop place : ℕ) (many : ℕ) (steps : List (AffineForm × AffineForm)) → many + length steps ≤ vars → BoundsFit many steps → AllByRecursion (IsSmallOver vars) (turn_values program loop place steps)
   values-fit loop place many [] more h = tt
   values-fit loop place many (b ∷ steps) more h = (value-fits loop place b.1 many (omega arith) h.0.1, values-fit loop (suc place) (suc many) steps (omega arith) h.1)
 
   pub turn-fits : (loop : ℕ) → AllByRecursion (IsSmallOver vars) (turn_before program loop)
-  turn-fits loop = subst (λ (path : List PathStep). AllByRecursion (IsSmallOver vars) (turn_values program loop 0 path)) (sym path-steps) (values-fit loop 0 n bounds (omega (arith, bounds-many)) bounds-over)
+  turn-fits loop = subst (λ (loops : List (AffineForm × AffineForm)). AllByRecursion (IsSmallOver vars) (turn_values program loop 0 loops)) (sym bounds-here) (values-fit loop 0 n bounds (omega (arith, bounds-many)) bounds-over)
 
   -- ---- rows
 
-  pub within-over : (many : ℕ) (before values : List AffineForm) → length before ≡ n → AllByRecursion (IsSmallOver many) before → AllByRecursion (IsSmallOver many) values
+  pub within-over : guards_at program 0 ≡ [] → (many : ℕ) (before values : List AffineForm) → length before ≡ n → AllByRecursion (IsSmallOver many) before → AllByRecursion (IsSmallOver many) values
       → AllOver many (domain_rows program 0 many before values)
-  within-over many before values long p q =
-      subst (λ (path : List PathStep). AllOver many (within_rows many path before values)) (sym path-steps)
-      (within_rows-over many bounds before values (subst (λ (k : ℕ). BoundsFit k bounds) (sym long) bounds-over) p q)
+  within-over bare many before values long p q =
+      subst (AllOver many) (sym (rows-bare program 0 many before values bare))
+      (subst (λ (loops : List (AffineForm × AffineForm)). AllOver many (within_rows many loops before values)) (sym bounds-here)
+      (within_rows-over many bounds before values (subst (λ (k : ℕ). BoundsFit k bounds) (sym long) bounds-over) p q))
 
-  pub within-many : (many : ℕ) (before values : List AffineForm) → length values ≡ d → length (domain_rows program 0 many before values) ≡ 2 * d
-  within-many many before values long =
-      ap (λ (path : List PathStep). length (within_rows many path before values)) path-steps ∙ within_rows-many many bounds before values (long ∙ sym bounds-many) ∙ ap (λ (k : ℕ). 2 * k) bounds-many
+  pub within-many : guards_at program 0 ≡ [] → (many : ℕ) (before values : List AffineForm) → length values ≡ d → length (domain_rows program 0 many before values) ≡ 2 * d
+  within-many bare many before values long =
+      ap (λ (rows : List AffineForm). length rows) (rows-bare program 0 many before values bare) ∙ length-within_rows many (bounds_at program 0) before values long
 
-  pub context-over : (read : ℕ) (tests : List AffineForm) → AllOver vars tests → AllOver vars (context program (record { statement = 0; read = read }) tests)
-  context-over read tests over =
+  pub context-over : guards_at program 0 ≡ [] → (read : ℕ) (tests : List AffineForm) → AllOver vars tests → AllOver vars (context program (record { statement = 0; read = read }) tests)
+  context-over bare read tests over =
       All-append (λ row. variables row ≡ vars) (map (widened vars) program.assumptions ++ (domain_of program 0).rows) tests
       (All-append (λ row. variables row ≡ vars) (map (widened vars) program.assumptions) (domain_of program 0).rows (widened-over n vars program.assumptions (omega arith) is.well_formed.assumptions)
-      (within-over vars (variables_from vars 0 n) (variables_from vars n d) (length-variables vars 0 n) (variables-over vars 0 n) (variables-over vars n d))) over
+      (within-over bare vars (variables_from vars 0 n) (variables_from vars n d) (length-variables vars 0 n) (variables-over vars 0 n) (variables-over vars n d))) over
 
-  pub context-many : (read : ℕ) (tests : List AffineForm) → length tests ≤ 6 → length (context program (record { statement = 0; read = read }) tests) ≤ 50
-  context-many read tests few =
+  pub context-many : guards_at program 0 ≡ [] → (read : ℕ) (tests : List AffineForm) → length tests ≤ 6 → length (context program (record { statement = 0; read = read }) tests) ≤ 50
+  context-many bare read tests few =
       omega (
         arith,
         length-append (map (widened vars) program.assumptions ++ (domain_of program 0).rows) tests,
         length-append (map (widened vars) program.assumptions) (domain_of program 0).rows,
         length-map program.assumptions (widened vars),
         is.limits.assumptions,
-        within-many vars (variables_from vars 0 n) (variables_from vars n d) (length-variables vars n d),
+        within-many bare vars (variables_from vars 0 n) (variables_from vars n d) (length-variables vars n d),
         depth-few parts is 0 some,
         few,
       )
@@ -149,7 +151,7 @@ module _ (parts : ProgramParts) (is : IsProgram parts) (some : 0 < length parts.
 
   -- ---- the rows of writes of the cell
 
-  module _ (read : ℕ) (same : (reference_of program (record { statement = 0; read = read })).subscripts ≡ (statement_at program 0).writes.subscripts) (common : length (common_loops program 0 0) ≡ d) where
+  module _ (bare : guards_at program 0 ≡ []) (read : ℕ) (same : (reference_of program (record { statement = 0; read = read })).subscripts ≡ (statement_at program 0).writes.subscripts) (common : length (common_loops program 0 0) ≡ d) where
     abbrev reader : ReadOf
     reader = record { statement = 0; read = read }
 
@@ -173,7 +175,7 @@ module _ (parts : ProgramParts) (is : IsProgram parts) (some : 0 < length parts.
     -- ---- what a source claims of its point
 
     pub inside-over : (loop : ℕ) → AllOver vars (domain_rows program 0 vars (parameter_point program vars) (turn_before program loop))
-    inside-over loop = within-over vars (parameter_point program vars) (turn_before program loop) (length-variables vars 0 n) (variables-over vars 0 n) (turn-fits loop)
+    inside-over loop = within-over bare vars (parameter_point program vars) (turn_before program loop) (length-variables vars 0 n) (variables-over vars 0 n) (turn-fits loop)
 
     pub here-over : (loop : ℕ) → length (turn_before program loop) ≡ d
         → AllOver vars (equality_rows vars (put_in (parameter_point program vars ++ turn_before program loop) (statement_at program 0).writes.subscripts) (put_in (reader_point program reader vars) (reference_of program reader).subscripts))
@@ -209,7 +211,7 @@ module _ (parts : ProgramParts) (is : IsProgram parts) (some : 0 < length parts.
       written-all =
           All-append (λ row. variables row ≡ wide) (map (widened wide) rows ++ inside) cells
           (All-append (λ row. variables row ≡ wide) (map (widened wide) rows) inside (widened-over vars wide rows (omega arith) over)
-          (within-over wide (parameter_point program wide) (writer_values program reader 0 wide) (length-variables wide 0 n) (variables-over wide 0 n) writers-over))
+          (within-over bare wide (parameter_point program wide) (writer_values program reader 0 wide) (length-variables wide 0 n) (variables-over wide 0 n) writers-over))
           (cells-over wide (writer_values program reader 0 wide) (omega arith) (length-variables wide vars d) writers-over)
 
       order-all : (level : ℕ) → AllOver wide (order level)
@@ -230,7 +232,7 @@ module _ (parts : ProgramParts) (is : IsProgram parts) (some : 0 < length parts.
             length-append (map (widened wide) rows) inside,
             length-map rows (widened wide),
             few,
-            within-many wide (parameter_point program wide) (writer_values program reader 0 wide) (length-variables wide vars d),
+            within-many bare wide (parameter_point program wide) (writer_values program reader 0 wide) (length-variables wide vars d),
             depth-few parts is 0 some,
             cells-many wide (parameter_point program wide ++ writer_values program reader 0 wide) (reader_point program reader wide) (statement_at program 0).writes.subscripts (reference_of program reader).subscripts
                 (sym (ap (λ (forms : List AffineForm). length forms) same)),

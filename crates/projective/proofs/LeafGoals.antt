@@ -14,7 +14,7 @@ use Rattle.affine_form.specs.Substitution.{substitution}
 use Rattle.affine_form.specs.System.{AffineSystem, AllOver}
 use Rattle.affine_form.specs.Rows.{variable, equality_rows, put_in, order_rows}
 use Rattle.affine_form.proofs.RowLemmas.{length-variables}
-use Rattle.affine_program.specs.Domain.{path_of, depth_of, domain_rows}
+use Rattle.affine_program.specs.Domain.{bounds_at, depth_of, domain_rows}
 use Rattle.flow_deps.specs.Answers.{Question, HasShortAnswer}
 use Rattle.claims.specs.Shown.{IsFew}
 use Rattle.dep_quast.specs.Context.{ReadOf, reference_of, parameter_point, reader_point, reader_values}
@@ -22,12 +22,12 @@ use Rattle.projective.specs.Turns.{width, is_kept, turn_before}
 use Rattle.projective.proofs.Picked.{Worth, IsWorth, IsPicked, picked-none, worth_sum, picked-shows}
 use Rattle.projective.proofs.NestRows.{put-worth, same-worth, parameters-kept, at, less, variables-worth, within-each, equality-each, order-each}
 use Rattle.projective.proofs.TurnWorths.{ends_of, turn_at, turn-worth, turn-many, turn-here, turn-before, turn-kept, turn-end}
-use Rattle.projective.proofs.Facts.{NestFacts, IsKeptLoop}
+use Rattle.projective.proofs.Facts.{NestFacts, IsKeptLoop, rows-bare}
 use Rattle.projective.proofs.WriteRows.{either, picked-one, picked-other}
 
 module _ (program : AffineProgram) (read : ℕ) (facts : NestFacts program) (same : (reference_of program (record { statement = 0; read = read })).subscripts ≡ (statement_at program 0).writes.subscripts)
     (loop : ℕ) (loop_there : loop < depth_of program 0) (other : is_kept program loop ≡ false) (rows : List AffineForm) (over : AllOver (width program) rows) (few : IsFew (length rows))
-    (domain : (j : ℕ) → j < depth_of program 0 → IsPicked rows (at (length program.parameters + j) ∷ less (ends_of (path_of program 0) j) (at (length program.parameters + j)) ∷ []))
+    (domain : (j : ℕ) → j < depth_of program 0 → IsPicked rows (at (length program.parameters + j) ∷ less (ends_of (bounds_at program 0) j) (at (length program.parameters + j)) ∷ []))
     (test : IsPicked rows ((λ point. at (length program.parameters + loop) point +ℤ negsuc 0) ∷ [])) where
   abbrev reader : ReadOf
   reader = record { statement = 0; read = read }
@@ -51,7 +51,7 @@ module _ (program : AffineProgram) (read : ℕ) (facts : NestFacts program) (sam
   t = turn_at program loop
 
   abbrev ends : ℕ → Worth
-  ends = ends_of (path_of program 0)
+  ends = ends_of (bounds_at program 0)
 
   follows : (goal : AffineForm) (worth : Worth) (picked : List Worth) (rest : ℕ) → variables goal ≡ vars → IsWorth goal worth → IsPicked rows picked → length picked ≤ 4 → rest ≤ 1
       → ((point : List ℤ) → worth point ≡ worth_sum picked point +ℤ pos rest) → HasShortAnswer (asks goal)
@@ -101,8 +101,11 @@ module _ (program : AffineProgram) (read : ℕ) (facts : NestFacts program) (sam
   pub inside-answered : AllOver vars (domain_rows program 0 vars parameters (turn_before program loop))
       → AllByRecursion HasShortAnswer (map asks (domain_rows program 0 vars parameters (turn_before program loop)))
   inside-answered wide =
+      let bounds = rows-bare program 0 vars parameters (turn_before program loop) facts.bare in
       All-map HasShortAnswer asks (domain_rows program 0 vars parameters (turn_before program loop))
-      (within-each (λ goal. HasShortAnswer (asks goal)) vars n (path_of program 0) parameters (turn_before program loop) ends t facts.runs (parameters-kept vars n (omega arith)) (turn-worth program loop) wide low high)
+      (subst (AllByRecursion (λ goal. HasShortAnswer (asks goal))) (sym bounds)
+      (within-each (λ goal. HasShortAnswer (asks goal)) vars n (bounds_at program 0) parameters (turn_before program loop) ends t facts.runs (parameters-kept vars n (omega arith)) (turn-worth program loop)
+      (subst (AllOver vars) bounds wide) low high))
 
   abbrev here_cells : List AffineForm
   here_cells = equality_rows vars (put_in (parameters ++ turn_before program loop) (statement_at program 0).writes.subscripts) (put_in (reader_point program reader vars) (statement_at program 0).writes.subscripts)

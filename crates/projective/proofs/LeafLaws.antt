@@ -10,11 +10,11 @@ use Rattle.iolb_model.specs.Form.{AffineForm, form_value}
 use Rattle.iolb_model.specs.Order.{common_loops}
 use Rattle.iolb_model.specs.Program.{Access, AffineProgram, statement_at}
 use Rattle.affine_form.specs.Form.{variables}
-use Rattle.affine_form.specs.Rows.{widened, variables_from, equality_rows, put_in, order_rows}
+use Rattle.affine_form.specs.Rows.{guard_rows, within_rows, widened, variables_from, equality_rows, put_in, order_rows}
 use Rattle.affine_form.specs.System.{AffineSystem, AllOver}
 use Rattle.affine_form.proofs.Meaning.{form_value-difference}
 use Rattle.affine_form.proofs.RowLemmas.{length-variables}
-use Rattle.affine_program.specs.Domain.{path_of, depth_of, domain_of}
+use Rattle.affine_program.specs.Domain.{bounds_at, depth_of, domain_of, guards_at}
 use Rattle.affine_program.specs.Parts.{ProgramParts, IsProgram, meaning}
 use Rattle.flow_deps.specs.Answers.{HasShortAnswer, following, pointless}
 use Rattle.dep_quast.proofs.Fits.{depth-few}
@@ -78,12 +78,15 @@ module _ (parts : ProgramParts) (is : IsProgram parts) (projective : IsProjectiv
   abbrev rows : List AffineForm → List AffineForm
   rows tests = context program reader tests
 
-  domain-picked : (tests : List AffineForm) (j : ℕ) → j < d → IsPicked (rows tests) (at (n + j) ∷ less (ends_of (path_of program 0) j) (at (n + j)) ∷ [])
+  domain-picked : (tests : List AffineForm) (j : ℕ) → j < d → IsPicked (rows tests) (at (n + j) ∷ less (ends_of (bounds_at program 0) j) (at (n + j)) ∷ [])
   domain-picked tests j below =
-      picked-append (map (widened vars) program.assumptions ++ (domain_of program 0).rows) tests (at (n + j) ∷ less (ends_of (path_of program 0) j) (at (n + j)) ∷ []) []
-      (picked-right (map (widened vars) program.assumptions) (domain_of program 0).rows (at (n + j) ∷ less (ends_of (path_of program 0) j) (at (n + j)) ∷ [])
-      (within-picked vars n (path_of program 0) (variables_from vars 0 n) (variables_from vars n d) (ends_of (path_of program 0)) (λ k. at (n + k)) j facts.runs (parameters-kept vars n (omega arith))
-      (variables-worth vars n d (omega arith)) below (omega (arith, below, length-variables vars n d)))) (picked-none tests)
+      picked-append (map (widened vars) program.assumptions ++ (domain_of program 0).rows) tests (at (n + j) ∷ less (ends_of (bounds_at program 0) j) (at (n + j)) ∷ []) []
+      (picked-right (map (widened vars) program.assumptions) (domain_of program 0).rows (at (n + j) ∷ less (ends_of (bounds_at program 0) j) (at (n + j)) ∷ [])
+      (picked-append (within_rows vars (bounds_at program 0) (variables_from vars 0 n) (variables_from vars n d)) guards (at (n + j) ∷ less (ends_of (bounds_at program 0) j) (at (n + j)) ∷ []) []
+      (within-picked vars n (bounds_at program 0) (variables_from vars 0 n) (variables_from vars n d) (ends_of (bounds_at program 0)) (λ k. at (n + k)) j facts.runs (parameters-kept vars n (omega arith))
+      (variables-worth vars n d (omega arith)) below (omega (arith, below, length-variables vars n d))) (picked-none guards))) (picked-none tests) where
+        guards : List AffineForm
+        guards = guard_rows vars (guards_at program 0) (variables_from vars 0 n ++ variables_from vars n d)
 
   tests-picked : (tests : List AffineForm) (worth : Worth) → IsPicked tests (worth ∷ []) → IsPicked (rows tests) (worth ∷ [])
   tests-picked tests worth h = picked-right (map (widened vars) program.assumptions ++ (domain_of program 0).rows) tests (worth ∷ []) h
@@ -134,18 +137,18 @@ module _ (parts : ProgramParts) (is : IsProgram parts) (projective : IsProjectiv
         (All-map (λ (system : AffineSystem). HasShortAnswer (pointless system)) (earlier_write program reader (rows tests) 0) (levels program 0 0)
         (All-levels (λ (level : ℕ). HasShortAnswer (pointless (earlier_write program reader (rows tests) 0 level))) level-answered)))) where
           few : length (rows tests) ≤ 50
-          few = context-many parts is some read tests (omega (arith, first.few, depth-few parts is 0 some))
+          few = context-many parts is some projective.unguarded read tests (omega (arith, first.few, depth-few parts is 0 some))
 
           over : AllOver vars (rows tests)
-          over = context-over parts is some read tests first.over
+          over = context-over parts is some projective.unguarded read tests first.over
 
           level-answered : (level : ℕ) → level < d → HasShortAnswer (pointless (earlier_write program reader (rows tests) 0 level))
           level-answered level there =
               let none : written_rows tests ≡ written_rows tests ++ [] = sym (append-nil (written_rows tests)) in
               let wide : AllOver (vars + d) ((written_rows tests ++ []) ++ order level) =
-              subst (λ (given : List AffineForm). AllOver (vars + d) (given ++ order level)) none (earlier-over parts is some read same facts.common (rows tests) over few level) in
+              subst (λ (given : List AffineForm). AllOver (vars + d) (given ++ order level)) none (earlier-over parts is some projective.unguarded read same facts.common (rows tests) over few level) in
               let many : length ((written_rows tests ++ []) ++ order level) ≤ 128 =
-              subst (λ (given : List AffineForm). length (given ++ order level) ≤ 128) none (earlier-few parts is some read same facts.common (rows tests) over few level there) in
+              subst (λ (given : List AffineForm). length (given ++ order level) ≤ 128) none (earlier-few parts is some projective.unguarded read same facts.common (rows tests) over few level there) in
               subst (answers_from level) (append-nil (written_rows tests))
               (elim (either (is_kept program level)) [
                 | inl kept ↦ kept-level program read facts same (rows tests) [] level there wide many kept
@@ -163,17 +166,17 @@ module _ (parts : ProgramParts) (is : IsProgram parts) (projective : IsProjectiv
       all = tests ++ later_turn program loop ∷ []
 
       few : length (rows all) ≤ 50
-      few = context-many parts is some read all (omega (arith, length-append tests (later_turn program loop ∷ []), first.few, depth-few parts is 0 some))
+      few = context-many parts is some projective.unguarded read all (omega (arith, length-append tests (later_turn program loop ∷ []), first.few, depth-few parts is 0 some))
 
       over : AllOver vars (rows all)
-      over = context-over parts is some read all (All-append (λ row. variables row ≡ vars) tests (later_turn program loop ∷ []) first.over ((shifted-fits vars (n + loop)).over, tt))
+      over = context-over parts is some projective.unguarded read all (All-append (λ row. variables row ≡ vars) tests (later_turn program loop ∷ []) first.over ((shifted-fits vars (n + loop)).over, tt))
 
       test : IsPicked (rows all) ((λ point. at (n + loop) point +ℤ negsuc 0) ∷ [])
       test = tests-picked all (λ point. at (n + loop) point +ℤ negsuc 0)
           (picked-right tests (later_turn program loop ∷ []) ((λ point. at (n + loop) point +ℤ negsuc 0) ∷ []) (inl ((λ point. shifted-worth vars (n + loop) point (omega (arith, loop_there))), tt)))
 
       pub inside-short : AllByRecursion HasShortAnswer (following (context_system program reader all) (inside_goals program reader claim))
-      inside-short = inside-answered program read facts same loop loop_there free (rows all) over (omega (arith, few)) (domain-picked all) test (inside-over parts is some read same facts.common loop)
+      inside-short = inside-answered program read facts same loop loop_there free (rows all) over (omega (arith, few)) (domain-picked all) test (inside-over parts is some projective.unguarded read same facts.common loop)
 
       pub cell-short : AllByRecursion HasShortAnswer (following (context_system program reader all) (cell_goals program reader claim))
       cell-short =
@@ -182,15 +185,15 @@ module _ (parts : ProgramParts) (is : IsProgram parts) (projective : IsProjectiv
           (cell-answered program read facts same loop loop_there free (rows all) over (omega (arith, few)) (domain-picked all) test
           (subst (λ (forms : List AffineForm). AllOver vars
           (equality_rows vars (put_in (parameter_point program vars ++ turn_before program loop) (statement_at program 0).writes.subscripts) (put_in (reader_point program reader vars) forms))) same
-          (here-over parts is some read same facts.common loop (turn-many program loop))))
+          (here-over parts is some projective.unguarded read same facts.common loop (turn-many program loop))))
 
       pub before-short : AllByRecursion HasShortAnswer (following (context_system program reader all) (before_goals program reader claim))
-      before-short = before-answered program read facts same loop loop_there free (rows all) over (omega (arith, few)) (domain-picked all) test (order-over parts is some read same facts.common loop)
+      before-short = before-answered program read facts same loop loop_there free (rows all) over (omega (arith, few)) (domain-picked all) test (order-over parts is some projective.unguarded read same facts.common loop)
 
       between-level : (after level : ℕ) → after < d → level < d → HasShortAnswer (pointless (write_between program reader (rows all) claim 0 after level))
       between-level after level p q =
           between-answered program read facts same (rows all) loop loop_there free (λ j behind below loose. first-picked (suc loop) tests (later_turn program loop ∷ []) first j (omega (arith, behind)) below loose)
-          after level p q (between-over parts is some read same facts.common (rows all) over few loop after level) (between-few parts is some read same facts.common (rows all) over few loop after level p q)
+          after level p q (between-over parts is some projective.unguarded read same facts.common (rows all) over few loop after level) (between-few parts is some projective.unguarded read same facts.common (rows all) over few loop after level p q)
 
       pub between-short : AllByRecursion HasShortAnswer (map pointless (writes_between program reader (rows all) claim))
       between-short =

@@ -54,7 +54,7 @@ module _ (parts : ProgramParts) (is : IsProgram parts) (projective : IsProjectiv
   input-there : (tests : List AffineForm) (nested : ℕ) → length tests ≤ 6 → AllByRecursion HasShortAnswer (map pointless (earlier_writes program reader (context program reader tests))) → ¬ IsNotShown program reader tests nested no_write
   input-there tests nested many h none =
       let all = answers-of (map pointless (earlier_writes program reader (context program reader tests))) h in
-      none (leaf (input all.0)) (input-shown Short program reader tests nested all.0 (omega (arith, context-many parts is some read tests many)) all.1)
+      none (leaf (input all.0)) (input-shown Short program reader tests nested all.0 (omega (arith, context-many parts is some projective.unguarded read tests many)) all.1)
 
   pub unwritten-there : ((reference_of program reader).array ≡ (statement_at program 0).writes.array → ⊥) → (nested : ℕ) → ¬ IsNotShown program reader [] nested no_write
   unwritten-there other nested = input-there [] nested (omega arith) (unwritten-answered parts is projective some read fits other [])
@@ -75,7 +75,7 @@ module _ (parts : ProgramParts) (is : IsProgram parts) (projective : IsProjectiv
         let claim : SourceClaim = record { statement = 0; level = loop; point = turn_before program loop; inside = inside.0; cell = cell.0; before = before.0; between = between.0 } in
         let bare_there = there-is parts is projective some read fits written loop there free tests first in
         none (leaf (source claim))
-        (source-shown program reader all is.well_formed fits Short nested claim (omega (arith, context-many parts is some read all (omega (arith, length-tests, first.few, depth-few parts is 0 some))))
+        (source-shown program reader all is.well_formed fits Short nested claim (omega (arith, context-many parts is some projective.unguarded read all (omega (arith, length-tests, first.few, depth-few parts is 0 some))))
         (record { statement = bare_there.statement; level = bare_there.level; point = bare_there.point; forms = bare_there.forms }) (sym written) inside.1 cell.1 before.1 between.1) where
           length-tests : length (tests ++ later_turn program loop ∷ []) ≡ length tests + 1
           length-tests = length-append tests (later_turn program loop ∷ [])

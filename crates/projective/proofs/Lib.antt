@@ -17,4 +17,3 @@ pub mod Units
 pub mod Ranges
 pub mod Exponents
 pub mod Below
-pub mod Nests

@@ -6,7 +6,6 @@ use Rattle.std.proofs.Math.IntN.{ℤ, pos, negsuc, ◌+ℤ◌, ◌-ℤ◌}
 use Rattle.std.proofs.lemmas.Int.{ints}
 use Rattle.std.proofs.lemmas.List.{length-append, length-map, map-append}
 use Rattle.iolb_model.specs.Form.{AffineForm, form_value}
-use Rattle.iolb_model.specs.Path.{PathStep, bounded}
 use Rattle.iolb_model.specs.Program.{Direction, upward, downward}
 use Rattle.affine_form.specs.Form.{variables}
 use Rattle.affine_form.specs.Substitution.{substitution, values_at}
@@ -70,11 +69,11 @@ abbrev pub SameParameters : ℕ → List ℤ → List ℤ → Type 0
 SameParameters params q point = (k : ℕ) → k < params → get_or q k (pos 0) ≡ get_or point k (pos 0)
 
 -- each loop runs from 0 to its end, which depends on the parameters alone
-abbrev pub RunsTo : ℕ → (ℕ → Worth) → List PathStep → Type 0
+abbrev pub RunsTo : ℕ → (ℕ → Worth) → List (AffineForm × AffineForm) → Type 0
 RunsTo params ends [] = ⊤
-RunsTo params ends (bounded lower upper ∷ path) =
-    (((q : List ℤ) → form_value lower q ≡ pos 0) × ((q point : List ℤ) → SameParameters params q point → form_value upper q ≡ ends 0 point))
-    × RunsTo params (λ j. ends (suc j)) path
+RunsTo params ends (bounds ∷ loops) =
+    (((q : List ℤ) → form_value bounds.0 q ≡ pos 0) × ((q point : List ℤ) → SameParameters params q point → form_value bounds.1 q ≡ ends 0 point))
+    × RunsTo params (λ j. ends (suc j)) loops
 
 -- forms whose first ones are the parameters
 pub record KeepsParameters (params : ℕ) (before : List AffineForm) : Type 0 where
@@ -100,37 +99,37 @@ at_worth ws (f ∷ fs) zero point h less = h.0 point
 at_worth ws (f ∷ fs) (suc k) point h less = at_worth (λ j. ws (suc j)) fs k point h.1 (omega arith)
 
 -- the rows of the loop at a place
-pub within-picked : (vars params : ℕ) (path : List PathStep) (before values : List AffineForm) (ends ws : ℕ → Worth) (j : ℕ) → RunsTo params ends path → KeepsParameters params before
-    → AreWorth ws values → j < length path → j < length values → IsPicked (within_rows vars path before values) (ws j ∷ less (ends j) (ws j) ∷ [])
+pub within-picked : (vars params : ℕ) (loops : List (AffineForm × AffineForm)) (before values : List AffineForm) (ends ws : ℕ → Worth) (j : ℕ) → RunsTo params ends loops → KeepsParameters params before
+    → AreWorth ws values → j < length loops → j < length values → IsPicked (within_rows vars loops before values) (ws j ∷ less (ends j) (ws j) ∷ [])
 within-picked vars params [] before values ends ws j runs keeps worth there here = absurd (omega arith)
-within-picked vars params (bounded lower upper ∷ path) before [] ends ws j runs keeps worth there here = absurd (omega arith)
-within-picked vars params (bounded lower upper ∷ path) before (v ∷ values) ends ws zero runs keeps worth there here =
-    inl ((λ point. low point), inl ((λ point. high point), picked-none (within_rows vars path (before ++ v ∷ []) values))) where
-      low : (point : List ℤ) → form_value (difference vars v (substitution lower before) (pos 0)) point ≡ ws 0 point
+within-picked vars params (bounds ∷ loops) before [] ends ws j runs keeps worth there here = absurd (omega arith)
+within-picked vars params (bounds ∷ loops) before (v ∷ values) ends ws zero runs keeps worth there here =
+    inl ((λ point. low point), inl ((λ point. high point), picked-none (within_rows vars loops (before ++ v ∷ []) values))) where
+      low : (point : List ℤ) → form_value (difference vars v (substitution bounds.0 before) (pos 0)) point ≡ ws 0 point
       low point =
-          let h = difference-worth vars v (substitution lower before) (ws 0) (λ p. pos 0) (pos 0) worth.0 (λ p. form_value-substitution lower before p ∙ runs.0.0 (values_at before p)) point in omega (arith, ints)
+          let h = difference-worth vars v (substitution bounds.0 before) (ws 0) (λ p. pos 0) (pos 0) worth.0 (λ p. form_value-substitution bounds.0 before p ∙ runs.0.0 (values_at before p)) point in omega (arith, ints)
 
-      high : (point : List ℤ) → form_value (difference vars (substitution upper before) v (pos 0)) point ≡ ends 0 point -ℤ ws 0 point
+      high : (point : List ℤ) → form_value (difference vars (substitution bounds.1 before) v (pos 0)) point ≡ ends 0 point -ℤ ws 0 point
       high point =
-          let h = difference-worth vars (substitution upper before) v (ends 0) (ws 0) (pos 0)
-          (λ p. form_value-substitution upper before p ∙ runs.0.1 (values_at before p) p (keeps.same p)) worth.0 point in omega (arith, ints)
-within-picked vars params (bounded lower upper ∷ path) before (v ∷ values) ends ws (suc j) runs keeps worth there here =
-    inr (inr (within-picked vars params path (before ++ v ∷ []) values (λ k. ends (suc k)) (λ k. ws (suc k)) j runs.1 (keeps-more params before (v ∷ []) keeps) worth.1 (omega arith) (omega arith)))
+          let h = difference-worth vars (substitution bounds.1 before) v (ends 0) (ws 0) (pos 0)
+          (λ p. form_value-substitution bounds.1 before p ∙ runs.0.1 (values_at before p) p (keeps.same p)) worth.0 point in omega (arith, ints)
+within-picked vars params (bounds ∷ loops) before (v ∷ values) ends ws (suc j) runs keeps worth there here =
+    inr (inr (within-picked vars params loops (before ++ v ∷ []) values (λ k. ends (suc k)) (λ k. ws (suc k)) j runs.1 (keeps-more params before (v ∷ []) keeps) worth.1 (omega arith) (omega arith)))
 
 -- what holds of all rows: of one that is worth the value at a place, and of one that is worth the end less it
-pub within-each : (P : AffineForm → Type 0) (vars params : ℕ) (path : List PathStep) (before values : List AffineForm) (ends ws : ℕ → Worth) → RunsTo params ends path
-    → KeepsParameters params before → AreWorth ws values → AllOver vars (within_rows vars path before values)
-    → ((j : ℕ) → j < length path → (f : AffineForm) → variables f ≡ vars → IsWorth f (ws j) → P f)
-    → ((j : ℕ) → j < length path → (f : AffineForm) → variables f ≡ vars → IsWorth f (less (ends j) (ws j)) → P f) → AllByRecursion P (within_rows vars path before values)
+pub within-each : (P : AffineForm → Type 0) (vars params : ℕ) (loops : List (AffineForm × AffineForm)) (before values : List AffineForm) (ends ws : ℕ → Worth) → RunsTo params ends loops
+    → KeepsParameters params before → AreWorth ws values → AllOver vars (within_rows vars loops before values)
+    → ((j : ℕ) → j < length loops → (f : AffineForm) → variables f ≡ vars → IsWorth f (ws j) → P f)
+    → ((j : ℕ) → j < length loops → (f : AffineForm) → variables f ≡ vars → IsWorth f (less (ends j) (ws j)) → P f) → AllByRecursion P (within_rows vars loops before values)
 within-each P vars params [] before values ends ws runs keeps worth over low high = tt
-within-each P vars params (bounded lower upper ∷ path) before [] ends ws runs keeps worth over low high = tt
-within-each P vars params (bounded lower upper ∷ path) before (v ∷ values) ends ws runs keeps worth over low high = (
-  low 0 (omega arith) (difference vars v (substitution lower before) (pos 0)) over.0 (λ point.
-      let h = difference-worth vars v (substitution lower before) (ws 0) (λ p. pos 0) (pos 0) worth.0 (λ p. form_value-substitution lower before p ∙ runs.0.0 (values_at before p)) point in omega (arith, ints)),
+within-each P vars params (bounds ∷ loops) before [] ends ws runs keeps worth over low high = tt
+within-each P vars params (bounds ∷ loops) before (v ∷ values) ends ws runs keeps worth over low high = (
+  low 0 (omega arith) (difference vars v (substitution bounds.0 before) (pos 0)) over.0 (λ point.
+      let h = difference-worth vars v (substitution bounds.0 before) (ws 0) (λ p. pos 0) (pos 0) worth.0 (λ p. form_value-substitution bounds.0 before p ∙ runs.0.0 (values_at before p)) point in omega (arith, ints)),
   (
-    high 0 (omega arith) (difference vars (substitution upper before) v (pos 0)) over.1.0
-        (less-worth vars (substitution upper before) v (ends 0) (ws 0) (λ p. form_value-substitution upper before p ∙ runs.0.1 (values_at before p) p (keeps.same p)) worth.0),
-    within-each P vars params path (before ++ v ∷ []) values (λ k. ends (suc k)) (λ k. ws (suc k)) runs.1 (keeps-more params before (v ∷ []) keeps) worth.1 over.1.1
+    high 0 (omega arith) (difference vars (substitution bounds.1 before) v (pos 0)) over.1.0
+        (less-worth vars (substitution bounds.1 before) v (ends 0) (ws 0) (λ p. form_value-substitution bounds.1 before p ∙ runs.0.1 (values_at before p) p (keeps.same p)) worth.0),
+    within-each P vars params loops (before ++ v ∷ []) values (λ k. ends (suc k)) (λ k. ws (suc k)) runs.1 (keeps-more params before (v ∷ []) keeps) worth.1 over.1.1
         (λ j below. low (suc j) (omega (arith, below))) (λ j below. high (suc j) (omega (arith, below))),
   ),
 )

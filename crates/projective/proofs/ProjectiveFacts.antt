@@ -1,5 +1,5 @@
 -- What is used of a projective program, shown.
-use Rattle.std.proofs.Common.{◌≡◌, ◌≢◌, refl, sym, ◌∙◌, ap, subst, inl, inr, ℕ, suc, ◌+◌, ◌<◌, ◌≤◌, Bool, true, false, List, [], ◌∷◌, length, replicate, get_or, arith}
+use Rattle.std.proofs.Common.{◌≡◌, ◌≢◌, refl, sym, ◌∙◌, ap, subst, inl, inr, ℕ, suc, ◌+◌, ◌<◌, ◌≤◌, Bool, true, false, List, [], ◌∷◌, ◌++◌, length, replicate, get_or, arith}
 use Rattle.std.specs.Prelude.{◌⊎◌, Option, Some, None, ◌==◌, ◌&&◌, ◌||◌, not, if◌then◌else◌, is_some, option_map, unwrap_or}
 use Rattle.std.specs.List.{AllByRecursion, list_any, range_with_len}
 use Rattle.std.specs.Ordering.{int_eq}
@@ -9,13 +9,13 @@ use Rattle.std.proofs.lemmas.List.{append-nil, get_or-set_same, get_or-set_other
 use Rattle.base_laws.proofs.Lists.{All-at}
 use Rattle.iolb_model.specs.Form.{AffineForm, form_value}
 use Rattle.iolb_model.specs.Order.{item_common, row_common, common_loops}
-use Rattle.iolb_model.specs.Path.{PathStep, bounded, item_path, row_path, first_of}
-use Rattle.iolb_model.specs.Program.{Direction, upward, downward, Access, Statement, Item, assign, loop, Row, done, next, AffineProgram, IsWellFormed, item_statements, row_statements, statement_at, read_at, no_statement}
+use Rattle.iolb_model.specs.Path.{PathStep, bounded, guarded, bounds_on, item_path, row_path, first_of}
+use Rattle.iolb_model.specs.Program.{Direction, upward, downward, Access, Statement, Item, assign, loop, guard, Row, done, next, AffineProgram, IsWellFormed, item_statements, row_statements, statement_at, read_at, no_statement}
 use Rattle.affine_form.specs.Rows.{variable}
 use Rattle.affine_form.proofs.Combination.{form_value-constant, coefficient_of-constant}
-use Rattle.affine_program.specs.Domain.{path_of, depth_of}
+use Rattle.affine_program.specs.Domain.{bounds_at, depth_of}
 use Rattle.dep_quast.specs.Levels.{writers, writers_from}
-use Rattle.projective.specs.Projective.{HoldsOfOne, IsNestItem, IsNestRow, AllRun, IsLoop, IsProjection, IsProjective, reference_to}
+use Rattle.projective.specs.Projective.{HoldsOfOne, IsBareItem, IsBareRow, IsNestItem, IsNestRow, AllRun, IsLoop, IsProjection, IsProjective, reference_to}
 use Rattle.projective.specs.Turns.{width}
 use Rattle.projective.proofs.NestRows.{AreUpward, RunsTo, IsAmong}
 use Rattle.projective.proofs.TurnWorths.{ends_of, shifted-worth}
@@ -23,31 +23,50 @@ use Rattle.projective.proofs.Facts.{NestFacts, IsKeptLoop}
 
 -- ---- the loops' bounds
 
-pub runs-to : (program : AffineProgram) (vars : ℕ) (path : List PathStep) → length program.parameters ≤ vars → AllRun program vars path → RunsTo (length program.parameters) (ends_of path) path
+pub runs-to : (program : AffineProgram) (vars : ℕ) (loops : List (AffineForm × AffineForm)) → length program.parameters ≤ vars → AllRun program vars loops → RunsTo (length program.parameters) (ends_of loops) loops
 runs-to program vars [] more h = tt
-runs-to program vars (bounded lower upper ∷ path) more h =
+runs-to program vars (bounds ∷ loops) more h =
     let parameter : ℕ = h.0.0 in
     let below = h.0.1 in
-    let value : (q : List ℤ) → form_value upper q ≡ get_or q parameter (pos 0) +ℤ negsuc 0 =
+    let value : (q : List ℤ) → form_value bounds.1 q ≡ get_or q parameter (pos 0) +ℤ negsuc 0 =
     λ q. ap (λ (f : AffineForm). form_value f q) below.upper ∙ shifted-worth vars parameter q (omega (arith, below.there)) in (
       (
         (λ q. ap (λ (f : AffineForm). form_value f q) below.lower ∙ form_value-constant vars (pos 0) q),
         (λ q point same. value q ∙ ap (λ (z : ℤ). z +ℤ negsuc 0) (same parameter below.there) ∙ sym (value point)),
       ),
-      runs-to program (suc vars) path (omega arith) h.1,
+      runs-to program (suc vars) loops (omega arith) h.1,
     )
 
 -- ---- the loops around the statement
+
+-- guards that hold no statement have none, and there is no way to one in them
+mutual
+  bare-item : (item : Item) → IsBareItem item → (item_statements item ≡ []) × (item_path item 0 ≡ None)
+  bare-item (assign number) bare = absurd bare
+  bare-item (loop name direction lower upper body) bare = absurd bare
+  bare-item (guard rows body) bare = let inner = bare-row body bare in (inner.0, ap (option_map (λ (path : List PathStep). guarded rows ∷ path)) inner.1)
+
+  bare-row : (row : Row) → IsBareRow row → (row_statements row ≡ []) × (row_path row 0 ≡ None)
+  bare-row done bare = (refl, refl)
+  bare-row (next item row) bare =
+      let first = bare-item item bare.0 in
+      let rest = bare-row row bare.1 in (
+        ap (λ (numbers : List ℕ). numbers ++ row_statements row) first.0 ∙ rest.0,
+        ap (λ (o : Option (List PathStep)). first_of o (row_path row 0)) first.1 ∙ rest.1,
+      )
 
 -- a nest down to the statement 0 has a way to it, and all loops of it are around the statement twice, and run upward
 record HasWay (way : Option (List PathStep)) (common : List Direction) : Type 0 where
   pub path : List PathStep
   pub is : way ≡ Some path
-  pub many : length common ≡ length path
+  pub many : length common ≡ length (bounds_on path)
   pub rise : AreUpward common
 
 first_number : (number : ℕ) → number ∷ [] ≡ 0 ∷ [] → (number == 0) ≡ true
 first_number number e = ap (λ (k : ℕ). k == 0) (ap (λ (ks : List ℕ). get_or ks 0 0) e)
+
+same-way : (way other : Option (List PathStep)) (common more : List Direction) → way ≡ other → common ≡ more → HasWay other more → HasWay way common
+same-way way other common more e f h = record { path = h.path; is = e ∙ h.is; many = ap length f ∙ h.many; rise = subst AreUpward (sym f) h.rise }
 
 mutual
   item-way : (item : Item) → IsNestItem item → item_statements item ≡ 0 ∷ [] → HasWay (item_path item 0) (item_common item 0 0)
@@ -55,23 +74,27 @@ mutual
   item-way (loop name upward lower upper body) nest e =
       let way = row-way body nest e in record { path = bounded lower upper ∷ way.path; is = ap (option_map (λ (path : List PathStep). bounded lower upper ∷ path)) way.is; many = ap suc way.many; rise = way.rise }
   item-way (loop name downward lower upper body) nest e = absurd nest
+  item-way (guard rows body) nest e = absurd nest
 
   row-way : (row : Row) → IsNestRow row → row_statements row ≡ 0 ∷ [] → HasWay (row_path row 0) (row_common row 0 0)
   row-way done nest e = absurd nest
-  row-way (next item done) nest e =
-      let way = item-way item nest (sym (append-nil (item_statements item)) ∙ e) in
-      let same : row_common (next item done) 0 0 ≡ item_common item 0 0 = ap (λ (o : Option (List PathStep)). if is_some o && is_some o then item_common item 0 0 else []) way.is in
-      record {
-        path = way.path;
-        is = ap (λ (o : Option (List PathStep)). first_of o None) way.is;
-        many = ap length same ∙ way.many;
-        rise = subst AreUpward (sym same) way.rise;
-      }
-  row-way (next item (next other row)) nest e = absurd nest
+  row-way (next item row) (inl later) e =
+      let none = bare-item item later.0 in
+      same-way (row_path (next item row) 0) (row_path row 0) (row_common (next item row) 0 0) (row_common row 0 0)
+      (ap (λ (o : Option (List PathStep)). first_of o (row_path row 0)) none.1)
+      (ap (λ (o : Option (List PathStep)). if is_some o && is_some o then item_common item 0 0 else row_common row 0 0) none.1)
+      (row-way row later.1 (ap (λ (numbers : List ℕ). numbers ++ row_statements row) (sym none.0) ∙ e))
+  row-way (next item row) (inr here) e =
+      let alone : item_statements item ≡ 0 ∷ [] = sym (append-nil (item_statements item)) ∙ ap (λ (numbers : List ℕ). item_statements item ++ numbers) (sym (bare-row row here.1).0) ∙ e in
+      let way = item-way item here.0 alone in
+      same-way (row_path (next item row) 0) (Some way.path) (row_common (next item row) 0 0) (item_common item 0 0)
+      (ap (λ (o : Option (List PathStep)). first_of o (row_path row 0)) way.is)
+      (ap (λ (o : Option (List PathStep)). if is_some o && is_some o then item_common item 0 0 else row_common row 0 0) way.is)
+      (record { path = way.path; is = refl; many = way.many; rise = way.rise })
 
 common-all : (program : AffineProgram) → IsNestRow program.tree → row_statements program.tree ≡ 0 ∷ [] → (length (common_loops program 0 0) ≡ depth_of program 0) × AreUpward (common_loops program 0 0)
 common-all program nest one =
-    let way = row-way program.tree nest one in (way.many ∙ sym (ap (λ (o : Option (List PathStep)). length (unwrap_or o [])) way.is), way.rise)
+    let way = row-way program.tree nest one in (way.many ∙ sym (ap (λ (o : Option (List PathStep)). length (bounds_on (unwrap_or o []))) way.is), way.rise)
 
 -- ---- subscripts
 
@@ -150,7 +173,8 @@ facts-of program well is =
     all-one (IsProjection (length program.parameters) (depth_of program 0)) statement.writes statement.reads is.projects.projections is.projects.accumulates in
     let around = common-all program is.loops.nest (well.numbered ∙ ap (range_with_len 0) is.one) in
     record {
-      runs = runs-to program (length program.parameters) (path_of program 0) (omega arith) is.loops.loops;
+      bare = is.unguarded;
+      runs = runs-to program (length program.parameters) (bounds_at program 0) (omega arith) is.loops.loops;
       common = around.0;
       rise = around.1;
       subscripts = all-kept program statement.writes.subscripts (λ form h. h) writes.loops;

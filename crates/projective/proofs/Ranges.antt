@@ -9,7 +9,7 @@ use Rattle.iolb_model.specs.Program.{AffineProgram}
 use Rattle.affine_form.specs.Form.{variables}
 use Rattle.affine_form.specs.Combination.{add_forms, coefficient_of, constant_form, scale_form}
 use Rattle.affine_form.specs.Multipliers.{FarkasMultipliers}
-use Rattle.affine_form.specs.Rows.{variable, widened, within_rows, variables_from, step_of}
+use Rattle.affine_form.specs.Rows.{variable, widened, within_rows, variables_from}
 use Rattle.affine_form.specs.Shown.{row_at}
 use Rattle.affine_form.proofs.Combination.{coefficient_of-constant, get_or-add_lists, get_or-scale, length-add_lists}
 use Rattle.affine_form.proofs.RowLemmas.{coefficient_of-difference, length-difference, length-widened, get_or-zeros}
@@ -62,7 +62,7 @@ module _ (program : AffineProgram) (before : List (AffineForm × AffineForm)) (b
     row = row_at program.assumptions takes.number
 
     abbrev rows : List AffineForm
-    rows = within_rows vars (map step_of before) (variables_from vars 0 params) (variables_from vars params (length before))
+    rows = within_rows vars before (variables_from vars 0 params) (variables_from vars params (length before))
 
     row-is : row_at (rows_before program before).rows takes.number ≡ widened vars row
     row-is =

@@ -2,14 +2,13 @@
 use Rattle.std.proofs.Common.{◌≡◌, refl, ap, subst, ℕ, suc, List, [], ◌∷◌, length, map}
 use Rattle.iolb_model.specs.Form.{AffineForm}
 use Rattle.iolb_model.specs.Program.{AffineProgram}
-use Rattle.affine_form.specs.Rows.{step_of}
 use Rattle.projective.specs.Projective.{AllRun, RunsBelow}
 use Rattle.projective.specs.Products.{AreAssumed, RunBelow}
 
 -- the first variable, and those behind it
 pub first-runs : (program : AffineProgram) (vars : ℕ) (bounds : List (AffineForm × AffineForm)) (first : AffineForm × AffineForm) (others : List (AffineForm × AffineForm)) → bounds ≡ first ∷ others
-    → AllRun program vars (map step_of bounds) → ((p : ℕ) × RunsBelow program vars first p) × AllRun program (suc vars) (map step_of others)
-first-runs program vars bounds first others e h = subst (λ (b : List (AffineForm × AffineForm)). AllRun program vars (map step_of b)) e h
+    → AllRun program vars bounds → ((p : ℕ) × RunsBelow program vars first p) × AllRun program (suc vars) others
+first-runs program vars bounds first others e h = subst (λ (b : List (AffineForm × AffineForm)). AllRun program vars b) e h
 
 -- there are as many parameters as variables
 pub run-many : (program : AffineProgram) (vars : ℕ) (nest : List (AffineForm × AffineForm)) (ps : List ℕ) → RunBelow program vars nest ps → length ps ≡ length nest

@@ -13,10 +13,10 @@ use Rattle.iolb_model.specs.Program.{Direction, AffineProgram, statement_at}
 use Rattle.affine_form.specs.Shown.{minus_one}
 use Rattle.affine_form.specs.Substitution.{substitution}
 use Rattle.affine_form.specs.System.{AffineSystem, AllOver}
-use Rattle.affine_form.specs.Rows.{widened, variable, equality_rows, put_in, order_rows}
+use Rattle.affine_form.specs.Rows.{guard_rows, within_rows, widened, variable, equality_rows, put_in, order_rows}
 use Rattle.affine_form.proofs.Combination.{form_value-constant}
 use Rattle.affine_form.proofs.RowLemmas.{length-variables}
-use Rattle.affine_program.specs.Domain.{path_of, depth_of, domain_rows}
+use Rattle.affine_program.specs.Domain.{bounds_at, depth_of, domain_rows, guards_at}
 use Rattle.flow_deps.specs.Answers.{HasShortAnswer, pointless}
 use Rattle.claims.specs.Shown.{IsFew}
 use Rattle.dep_quast.specs.Context.{ReadOf, reference_of, parameter_point, reader_point, reader_values, writer_values, write_rows, before_reader}
@@ -94,10 +94,13 @@ module _ (program : AffineProgram) (read : ℕ) (facts : NestFacts program) (sam
   reader-long : length (reader_values program reader wide) ≡ d
   reader-long = length-variables wide n d
 
-  inside-picked : (j : ℕ) → j < d → IsPicked inside (w j ∷ less (ends_of (path_of program 0) j) (w j) ∷ [])
+  inside-picked : (j : ℕ) → j < d → IsPicked inside (w j ∷ less (ends_of (bounds_at program 0) j) (w j) ∷ [])
   inside-picked j below =
-      within-picked wide n (path_of program 0) (parameter_point program wide) (writer_values program reader 0 wide) (ends_of (path_of program 0)) w j facts.runs
-      (parameters-kept wide n (omega arith)) writer-worth below (omega (arith, writer-long))
+      let bounds : List AffineForm = within_rows wide (bounds_at program 0) (parameter_point program wide) (writer_values program reader 0 wide) in
+      let guards : List AffineForm = guard_rows wide (guards_at program 0) (parameter_point program wide ++ writer_values program reader 0 wide) in
+      picked-append bounds guards (w j ∷ less (ends_of (bounds_at program 0) j) (w j) ∷ []) []
+      (within-picked wide n (bounds_at program 0) (parameter_point program wide) (writer_values program reader 0 wide) (ends_of (bounds_at program 0)) w j facts.runs
+      (parameters-kept wide n (omega arith)) writer-worth below (omega (arith, writer-long))) (picked-none guards)
 
   here-worth : (place : ℕ) → place < d → IsWorth (substitution (variable (width program) (n + place)) (parameter_point program wide ++ writer_values program reader 0 wide)) (w place)
   here-worth place there =
@@ -144,7 +147,7 @@ module _ (program : AffineProgram) (read : ℕ) (facts : NestFacts program) (sam
   written-first j there h =
       picked-append (map (widened wide) rows ++ inside) cells ((λ point. pos 0 -ℤ x j point) ∷ w j ∷ []) []
       (picked-append (map (widened wide) rows) inside ((λ point. pos 0 -ℤ x j point) ∷ []) (w j ∷ []) (picked-wide wide rows ((λ point. pos 0 -ℤ x j point) ∷ []) h)
-      (picked-one inside (w j) (less (ends_of (path_of program 0) j) (w j)) (inside-picked j there))) (picked-none cells)
+      (picked-one inside (w j) (less (ends_of (bounds_at program 0) j) (w j)) (inside-picked j there))) (picked-none cells)
 
   -- an earlier write at a level, after rows that hold those of a write
   abbrev pub early : List AffineForm → ℕ → AffineSystem
@@ -200,10 +203,10 @@ module _ (program : AffineProgram) (read : ℕ) (facts : NestFacts program) (sam
       -- it lies behind the loop of the source
       end-after : loop < after → is_kept program after ≡ false → HasShortAnswer (pointless (early (since after) level))
       end-after behind free =
-          no-point (early (since after) level) (less (ends_of (path_of program 0) after) (w after) ∷ below (w after) (t after) ∷ []) 0 over few
-          (picked-append (written ++ since after) (order level) (less (ends_of (path_of program 0) after) (w after) ∷ below (w after) (t after) ∷ []) []
-          (picked-append written (since after) (less (ends_of (path_of program 0) after) (w after) ∷ []) (below (w after) (t after) ∷ [])
-          (written-inside (less (ends_of (path_of program 0) after) (w after)) (picked-other inside (w after) (less (ends_of (path_of program 0) after) (w after)) (inside-picked after after_there)))
+          no-point (early (since after) level) (less (ends_of (bounds_at program 0) after) (w after) ∷ below (w after) (t after) ∷ []) 0 over few
+          (picked-append (written ++ since after) (order level) (less (ends_of (bounds_at program 0) after) (w after) ∷ below (w after) (t after) ∷ []) []
+          (picked-append written (since after) (less (ends_of (bounds_at program 0) after) (w after) ∷ []) (below (w after) (t after) ∷ [])
+          (written-inside (less (ends_of (bounds_at program 0) after) (w after)) (picked-other inside (w after) (less (ends_of (bounds_at program 0) after) (w after)) (inside-picked after after_there)))
           (after-last after after_there)) (picked-none (order level)))
           (lit≤ tt) (lit≤ tt) (λ point. let e = turn-end program loop after point behind free in omega (arith, ints))
 

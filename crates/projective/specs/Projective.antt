@@ -4,11 +4,10 @@ use Rattle.std.specs.Prelude.{◌≡◌, ◌≢◌, ◌⊎◌, ⊤, ℕ, suc, �
 use Rattle.std.specs.List.{AllByRecursion, filter, find, list_any, range_with_len}
 use Rattle.std.specs.Ordering.{int_eq}
 use Rattle.iolb_model.specs.Form.{AffineForm}
-use Rattle.iolb_model.specs.Path.{PathStep, bounded}
-use Rattle.iolb_model.specs.Program.{upward, downward, Access, Statement, Item, assign, loop, Row, done, next, AffineProgram, statement_at}
+use Rattle.iolb_model.specs.Program.{upward, downward, Access, Statement, Item, assign, loop, guard, Row, done, next, AffineProgram, statement_at}
 use Rattle.affine_form.specs.Combination.{constant_form}
 use Rattle.affine_form.specs.Rows.{variable}
-use Rattle.affine_program.specs.Domain.{depth_of, path_of}
+use Rattle.affine_program.specs.Domain.{bounds_at, depth_of, guards_at}
 use Rattle.projective.specs.declared.recognising.TheConstants.{MOST_ARRAYS}
 
 -- something holds of a member of a list
@@ -18,17 +17,28 @@ HoldsOfOne P (x ∷ xs) = P x ⊎ HoldsOfOne P xs
 
 -- ---- loops
 
--- The tree is a nest: each row holds one item, down to a statement, and each loop runs upward.
+-- a guard that holds no statement and no loop, and a row of such guards
+abbrev mutual
+  pub IsBareItem : Item → Type 0
+  IsBareItem (assign number) = ⊥
+  IsBareItem (loop name direction lower upper body) = ⊥
+  IsBareItem (guard rows body) = IsBareRow body
+
+  pub IsBareRow : Row → Type 0
+  IsBareRow done = ⊤
+  IsBareRow (next item row) = IsBareItem item × IsBareRow row
+
+-- The tree is a nest: each row holds one item besides such guards, down to a statement, and each loop runs upward.
 abbrev mutual
   pub IsNestItem : Item → Type 0
   IsNestItem (assign number) = ⊤
   IsNestItem (loop name upward lower upper body) = IsNestRow body
   IsNestItem (loop name downward lower upper body) = ⊥
+  IsNestItem (guard rows body) = ⊥
 
   pub IsNestRow : Row → Type 0
   IsNestRow done = ⊥
-  IsNestRow (next item done) = IsNestItem item
-  IsNestRow (next item (next other row)) = ⊥
+  IsNestRow (next item row) = (IsBareItem item × IsNestRow row) ⊎ (IsNestItem item × IsBareRow row)
 
 -- the form over so many variables that is one of them, and a number
 abbrev pub shifted_variable : ℕ → ℕ → ℤ → AffineForm
@@ -46,10 +56,10 @@ pub record RunsBelow (program : AffineProgram) (vars : ℕ) (bounds : AffineForm
   pub upper : bounds.1 ≡ shifted_variable vars parameter (negsuc 0)
   pub assumed : HoldsOfOne (Assumes (length program.parameters) parameter) program.assumptions
 
--- each loop on a way runs from 0 to below a parameter
-abbrev pub AllRun : AffineProgram → ℕ → List PathStep → Type 0
+-- each loop with these bounds runs from 0 to below a parameter
+abbrev pub AllRun : AffineProgram → ℕ → List (AffineForm × AffineForm) → Type 0
 AllRun program vars [] = ⊤
-AllRun program vars (bounded lower upper ∷ path) = ((parameter : ℕ) × RunsBelow program vars (lower, upper) parameter) × AllRun program (suc vars) path
+AllRun program vars (bounds ∷ loops) = ((parameter : ℕ) × RunsBelow program vars bounds parameter) × AllRun program (suc vars) loops
 
 -- ---- references
 
@@ -82,12 +92,12 @@ coordinates params depth (Some access) = filter (λ place. stands_in (params + p
 
 -- ---- programs
 
--- The tree is a nest of at least one loop, each of which runs upward, and each loop on this way runs from 0 to below a
+-- The tree is a nest of at least one loop, each of which runs upward, and each loop with these bounds runs from 0 to below a
 -- parameter that is assumed to be at least 1.
-pub record AreProjectiveLoops (program : AffineProgram) (path : List PathStep) : Type 0 where
-  pub some : 1 ≤ length path
+pub record AreProjectiveLoops (program : AffineProgram) (bounds : List (AffineForm × AffineForm)) : Type 0 where
+  pub some : 1 ≤ length bounds
   pub nest : IsNestRow program.tree
-  pub loops : AllRun program (length program.parameters) path
+  pub loops : AllRun program (length program.parameters) bounds
 
 -- The reference that a statement writes is also read, so that what is read are all references; there are few arrays, and all
 -- references to one are the same; the subscripts of each reference are different loops, and each loop stands in one.
@@ -98,11 +108,12 @@ pub record AreProjections (params arrays depth : ℕ) (statement : Statement) : 
   pub standing : (place : ℕ) → place < depth → HoldsOfOne (λ (access : Access). stands_in (params + place) access ≡ true) statement.reads
   pub projections : AllByRecursion (IsProjection params depth) statement.reads
 
--- A projective program has one statement, in a nest of loops that run upward from 0 to below parameters, whose references
--- are projections of the loops.
+-- A projective program has one statement, with no guards around it, in a nest of loops that run upward from 0 to below
+-- parameters, whose references are projections of the loops.
 pub record IsProjective (program : AffineProgram) : Type 0 where
   pub one : length program.statements ≡ 1
-  pub loops : AreProjectiveLoops program (path_of program 0)
+  pub unguarded : guards_at program 0 ≡ []
+  pub loops : AreProjectiveLoops program (bounds_at program 0)
   pub projects : AreProjections (length program.parameters) (length program.arrays) (depth_of program 0) (statement_at program 0)
 
 -- For each of so many arrays, in their order, the places of the loops that stand in the first reference to it, rising.

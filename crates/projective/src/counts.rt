@@ -1,7 +1,6 @@
 //! Counts of nests.
 
 ghost use Rattle.std.specs.Prelude.{◌≤◌, IfOk, length, map};
-ghost use Rattle.affine_form.specs.Rows.{step_of};
 ghost use Rattle.affine_program.specs.Parts.{meaning};
 ghost use Rattle.projective.specs.Projective.{AllRun};
 ghost use Rattle.projective.specs.Products.{IsProductCount};
@@ -27,7 +26,7 @@ pub fn product_sums(
     bounds: &[(Form, Form)],
 ) -> Result<Sums, Memory>
     requires few { length bounds.now ≤ NEST_VARIABLES }
-    requires run { AllRun (meaning program.now) (length program.now.params) (map step_of bounds.now) }
+    requires run { AllRun (meaning program.now) (length program.now.params) bounds.now }
     ensures { IfOk result (λ sums. IsProductCount (meaning program.now) bounds.now sums) }
 {
     let params = program.params().len();

@@ -3,15 +3,38 @@
 ghost use Rattle.std.specs.Prelude.{◌≡◌, ◌↔◌, ◌+◌, ◌<◌, ◌≤◌, ◌≤ℤ◌, negsuc, IsTrue, IfOk, ℕ, List, length, map};
 ghost use Rattle.iolb_model.specs.Form.{AffineForm};
 ghost use Rattle.iolb_model.specs.declared.limits.TheConstants.{VARIABLES};
-ghost use Rattle.affine_form.specs.Rows.{step_of};
 ghost use Rattle.affine_program.specs.Parts.{meaning};
 ghost use Rattle.affine_program.specs.Tree.{item_of, row_of};
-ghost use Rattle.projective.specs.Projective.{AllRun, HoldsOfOne, IsNestItem, IsNestRow, RunsBelow};
+ghost use Rattle.projective.specs.Projective.{AllRun, HoldsOfOne, IsBareItem, IsBareRow, IsNestItem, IsNestRow, RunsBelow};
 
 use crate::forms::{one_less, zero};
 use affine_form::{Form, Memory, variable};
 use affine_program::{Item, Program};
 use std::alloc::Global;
+
+/// Whether an item is a guard that holds no statement and no loop.
+#[cycle(bare)]
+fn is_bare(item: &Item) -> bool
+    ensures { IsTrue result ↔ IsBareItem (item_of item.now) }
+{
+    match item {
+        Item::Guard { body, .. } => are_bare(body),
+        Item::Loop { .. } | Item::Assign(_) => false,
+    }
+}
+
+/// Whether each item of a row is a guard that holds no statement and no loop.
+#[cycle(bare)]
+fn are_bare(items: &[Item]) -> bool
+    ensures { IsTrue result ↔ IsBareRow (row_of items.now) }
+{
+    for item in items {
+        if !is_bare(item) {
+            return false;
+        }
+    }
+    true
+}
 
 /// Whether an item is a nest down to a statement, each of whose loops runs upward.
 #[cycle(nest)]
@@ -20,16 +43,23 @@ fn is_nest_item(item: &Item) -> bool
 {
     match item {
         Item::Loop { down, body, .. } => !*down && is_nest(body),
+        Item::Guard { .. } => false,
         Item::Assign(_) => true,
     }
 }
 
-/// Whether a row of items is a nest down to a statement, each of whose loops runs upward.
+/// Whether a row of items is a nest down to a statement, each of whose loops runs upward, besides guards that hold no
+/// statement and no loop.
 #[cycle(nest)]
 pub(crate) fn is_nest(items: &[Item]) -> bool
     ensures { IsTrue result ↔ IsNestRow (row_of items.now) }
 {
-    items.len() == 1 && is_nest_item(&items[0])
+    for (place, item) in items.iter().enumerate() {
+        if !is_bare(item) {
+            return is_nest_item(item) && are_bare(&items[place + 1..]);
+        }
+    }
+    false
 }
 
 /// Whether a form has these coefficients and a constant below 0.
@@ -106,7 +136,7 @@ pub(crate) fn all_run(
 ) -> Result<bool, Memory>
     requires around { length program.now.params ≤ vars }
     requires few { vars + length bounds.now ≤ VARIABLES }
-    ensures { IfOk result (λ yes. IsTrue yes ↔ AllRun (meaning program.now) vars (map step_of bounds.now)) }
+    ensures { IfOk result (λ yes. IsTrue yes ↔ AllRun (meaning program.now) vars bounds.now) }
 {
     match bounds.split_first() {
         Some((first, rest)) => {

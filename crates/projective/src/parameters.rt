@@ -1,7 +1,6 @@
 //! The parameters below which variables run.
 
 ghost use Rattle.std.specs.Prelude.{◌≡◌, ◌<◌, ◌≤◌, ◌+◌, ℕ, ℤ, IfOk, length, map};
-ghost use Rattle.affine_form.specs.Rows.{step_of};
 ghost use Rattle.affine_program.specs.Parts.{meaning};
 ghost use Rattle.iolb_model.specs.declared.limits.TheConstants.{VARIABLES};
 ghost use Rattle.projective.specs.Projective.{AllRun, shifted_variable};
@@ -33,7 +32,7 @@ pub fn parameters_from(
 ) -> Result<Vec<usize>, Memory>
     requires around { length program.now.params ≤ vars }
     requires few { vars + length bounds.now ≤ VARIABLES }
-    requires run { AllRun (meaning program.now) vars (map step_of bounds.now) }
+    requires run { AllRun (meaning program.now) vars bounds.now }
     ensures { IfOk result (λ parameters. RunBelow (meaning program.now) vars bounds.now parameters.items) }
 {
     let Some((first, others)) = bounds.split_first() else {

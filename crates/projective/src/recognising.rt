@@ -2,7 +2,6 @@
 
 ghost use Rattle.std.specs.Prelude.{◌↔◌, ◌≡◌, ◌∷◌, [], ◌+◌, ◌≤◌, IsTrue, IfOk, MatchOption, length, map};
 ghost use Rattle.iolb_model.specs.declared.limits.TheConstants.{VARIABLES};
-ghost use Rattle.affine_form.specs.Rows.{step_of};
 ghost use Rattle.affine_program.specs.Parts.{access_of, meaning};
 ghost use Rattle.projective.specs.Projective.{AreProjections, AreProjectiveLoops, IsProjective, sets_of};
 ghost use Rattle.projective.specs.Shape.{IsShapeOf};
@@ -26,7 +25,7 @@ fn are_loops_projective(
     bounds: &[(Form, Form)],
 ) -> Result<bool, Memory>
     requires few { length program.now.params + length bounds.now ≤ VARIABLES }
-    ensures { IfOk result (λ yes. IsTrue yes ↔ AreProjectiveLoops (meaning program.now) (map step_of bounds.now)) }
+    ensures { IfOk result (λ yes. IsTrue yes ↔ AreProjectiveLoops (meaning program.now) bounds.now) }
 {
     if bounds.is_empty() {
         return Ok(false);
@@ -94,6 +93,9 @@ fn shape_of(
     let (params, arrays) = (program.params().len(), program.arrays().len());
     let bounds = statement.bounds.as_slice();
     let reads = statement.reads.as_slice();
+    if !statement.guards.as_slice().is_empty() {
+        return Ok(None);
+    }
     if !are_loops_projective(alloc, program, bounds)? {
         return Ok(None);
     }
@@ -113,9 +115,10 @@ fn shape_of(
 }
 
 /// The loops of a projective program, and those that stand in each array's reference, and `None` exactly where the program
-/// isn't projective: one statement in a nest of at least one loop, each of which runs upward from 0 to below a parameter
-/// that some assumption says is at least 1; the reference that is written is also read; at most 6 arrays, each with one
-/// reference, whose subscripts are different loops; and each loop stands in a reference. Want of memory is the only error.
+/// isn't projective: one statement, with no guards around it, in a nest of at least one loop, each of which runs upward
+/// from 0 to below a parameter that some assumption says is at least 1; the reference that is written is also read; at most 6
+/// arrays, each with one reference, whose subscripts are different loops; and each loop stands in a reference. Want of memory
+/// is the only error.
 pub fn as_projective(alloc: Global, program: &Program) -> Result<Option<Projective>, Memory>
     ensures { IfOk result (λ found. MatchOption found (¬ IsProjective (meaning program.now)) (λ shape. IsProjective (meaning program.now) × IsShapeOf (meaning program.now) shape)) }
 {

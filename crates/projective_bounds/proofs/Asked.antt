@@ -1,5 +1,5 @@
 -- What is asked of the term of a whole domain (condition 1) holds.
-use Rattle.std.proofs.Common.{◌≡◌, refl, sym, ap, subst, ℕ, ◌+◌, List, [], ◌∷◌, ◌++◌, length, map, arith, Bool, true, false}
+use Rattle.std.proofs.Common.{◌≡◌, refl, sym, ap, subst, ℕ, ◌+◌, List, [], ◌∷◌, ◌++◌, length, arith, Bool, true, false}
 use Rattle.std.specs.Prelude.{Option, Some, None, ◌==◌, if◌then◌else◌, codes}
 use Rattle.std.specs.List.{AllByRecursion, range_with_len}
 use Rattle.std.proofs.lemmas.Bool.{eqb-true}
@@ -7,8 +7,8 @@ use Rattle.base_laws.proofs.Lists.{All-every, All-map}
 use Rattle.iolb_model.specs.Form.{AffineForm}
 use Rattle.iolb_model.specs.Program.{Access, AffineProgram, statement_at}
 use Rattle.certificate_fit.proofs.FormsFit.{bounds-hold}
-use Rattle.affine_form.specs.Rows.{BoundsFit, step_of}
-use Rattle.affine_program.specs.Domain.{depth_of, path_of}
+use Rattle.affine_form.specs.Rows.{BoundsFit}
+use Rattle.affine_program.specs.Domain.{bounds_at, depth_of}
 use Rattle.affine_program.specs.Parts.{ProgramParts, meaning}
 use Rattle.claims.specs.Claims.{AllHold}
 use Rattle.claims.specs.declared.place.Step.{Step}
@@ -52,7 +52,7 @@ square-asked size loops place e = (e, (by (size == 0) refl, tt)) where
   by false is = e
 
 module _ (parts : ProgramParts) (trees : List (List SelectionTree)) (q : ℕ) (weights : List ℕ) (nest : List (AffineForm × AffineForm)) (count : SumClaims) (can : CanBeShown parts trees q weights)
-    (path : map step_of nest ≡ path_of (meaning parts) 0) (counts : IsProductCount (meaning parts) nest count) where
+    (around : nest ≡ bounds_at (meaning parts) 0) (counts : IsProductCount (meaning parts) nest count) where
   abbrev program : AffineProgram
   program = meaning parts
 
@@ -63,10 +63,10 @@ module _ (parts : ProgramParts) (trees : List (List SelectionTree)) (q : ℕ) (w
   p = length program.parameters
 
   size-is : length nest ≡ depth_of program 0
-  size-is = sym (depth parts trees q weights nest count can path counts)
+  size-is = sym (depth parts trees q weights nest count can around counts)
 
   fits : PartitionFits program trees term
-  fits = term-fits parts trees q weights nest count can path counts
+  fits = term-fits parts trees q weights nest count can around counts
 
   -- no two families have a target in common
   none-apart : 0 ≡ apart_count term.shape program trees term
@@ -74,7 +74,7 @@ module _ (parts : ProgramParts) (trees : List (List SelectionTree)) (q : ℕ) (w
     arith,
     pairs-many program (pieces_of_families program trees term),
     ap (λ (lists : List (List Target)). length (pairwise_targets lists)) (families-told program trees 0 nest (identity_matrix (length nest)) [] term.families fits.families),
-    ap length (none-pairwise program trees nest 0 (projection_sets program) weights (walked parts trees q weights nest count can path counts)),
+    ap length (none-pairwise program trees nest 0 (projection_sets program) weights (walked parts trees q weights nest count can around counts)),
   )
 
   module _ (place : List Step) where
@@ -82,8 +82,8 @@ module _ (parts : ProgramParts) (trees : List (List SelectionTree)) (q : ℕ) (w
     walks-asked =
         AllHold-append (apart_fit program trees place term) (credits_fit program place term ++ walked_fit program trees place term) (none-apart, tt)
         (AllHold-append (credits_fit program place term) (walked_fit program trees place term) tt
-        (families-asked program trees nest (identity_matrix (length nest)) (is-nest parts trees q weights nest count can path counts) (place ++ Key (codes "families") ∷ []) 0 0 (projection_sets program) weights
-        (walked parts trees q weights nest count can path counts) (all-rise program)))
+        (families-asked program trees nest (identity_matrix (length nest)) (is-nest parts trees q weights nest count can around counts) (place ++ Key (codes "families") ∷ []) 0 0 (projection_sets program) weights
+        (walked parts trees q weights nest count can around counts) (all-rise program)))
 
     coordinates-asked : AllHold (coordinates_fit program term place)
     coordinates-asked = (

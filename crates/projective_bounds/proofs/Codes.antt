@@ -10,7 +10,6 @@ use Rattle.base_laws.proofs.Ranges.{filter-failed, filter-passed, range-distinct
 use Rattle.base_laws.proofs.Lists.{All-at, All-push, All-weaken}
 use Rattle.iolb_model.specs.Form.{AffineForm}
 use Rattle.iolb_model.specs.Program.{Access, AffineProgram, Array, IsWellFormed, no_statement, read_at, statement_at}
-use Rattle.affine_form.specs.Rows.{step_of}
 use Rattle.affine_program.specs.Domain.{depth_of}
 use Rattle.affine_program.specs.Parts.{ProgramParts, meaning}
 use Rattle.cold_terms.specs.Held.{IsHeldCold, IsPlaced, array_read as array_of_cold}
@@ -55,7 +54,7 @@ loop-more program loops more items k value form is below one same h pushed = (
 
 -- there is a parameter for each loop
 pub loops-many : (program : AffineProgram) (below : List ℕ) → RunLoops program below → length below ≡ depth_of program 0
-loops-many program below run = run-many program (length program.parameters) run.nest below run.run ∙ sym (length-map run.nest step_of) ∙ ap length run.path
+loops-many program below run = run-many program (length program.parameters) run.nest below run.run ∙ ap length run.around
 
 pub all-below : (m n : ℕ) (xs ys : List ℕ) → xs ≡ ys → m ≡ n → AllByRecursion (λ (x : ℕ). x < n) ys → AllByRecursion (λ (x : ℕ). x < m) xs
 all-below m n xs ys e f h = subst (AllByRecursion (λ (x : ℕ). x < m)) (sym e) (All-weaken (λ (x : ℕ). x < n) (λ (x : ℕ). x < m) ys (λ x below. omega (arith, f, below)) h)

@@ -16,10 +16,11 @@ use Rattle.claims.proofs.Laws.{AllHold-append}
 use Rattle.execution_laws.specs.Inverse.{scaled_entry}
 use Rattle.affine_form.specs.Combination.{coefficient_of}
 use Rattle.affine_form.specs.Matrix.{IntegerMatrix, entry}
-use Rattle.affine_form.specs.Rows.{BoundsFit, IsSmallOver, step_of, widened, within_rows}
+use Rattle.affine_form.specs.Rows.{BoundsFit, IsSmallOver, widened, within_rows}
 use Rattle.affine_form.specs.System.{AllOver}
-use Rattle.affine_form.proofs.RowLemmas.{length-variables, variables-over, within_rows-many}
-use Rattle.affine_program.specs.Domain.{depth_of, path_of, domain_rows}
+use Rattle.affine_form.proofs.Meaning.{length-within_rows}
+use Rattle.affine_form.proofs.RowLemmas.{length-variables, variables-over}
+use Rattle.affine_program.specs.Domain.{bounds_at, depth_of, domain_rows, guards_at}
 use Rattle.dep_quast.specs.Context.{parameter_point, reference_of}
 use Rattle.dep_quast.specs.Tree.{SelectionTree, leaf_count}
 use Rattle.domain_count.specs.Count.{rows_before}
@@ -33,6 +34,7 @@ use Rattle.reuse_paths.specs.WalkClaims.{leaves_claims, walk_claims}
 use Rattle.reuse_paths.specs.WalkFits.{AreCellLabels, EntriesFit, IsLabel, IsLabelIf, WalkFits}
 use Rattle.reuse_paths.specs.WalkSettings.{region_context, region_values}
 use Rattle.projective.proofs.Units.{unit, unit-at, unit-other, unit-same}
+use Rattle.projective.proofs.Facts.{rows-bare}
 use Rattle.projective_bounds.specs.Families.{array_family, array_node, array_read, array_subscripts, array_walk, cell_form, cell_label, entries_of, label_if, loop_form, loops_label, place_among}
 use Rattle.projective_bounds.specs.Trees.{KeepsLoops}
 use Rattle.projective_bounds.proofs.ReaderLabels.{none}
@@ -65,7 +67,8 @@ tree-is program trees array set h = ap tree_or_blank h.there
 -- What is known of the nest of all instances, and of a matrix of coordinates.
 pub record IsNest (program : AffineProgram) (nest : List (AffineForm × AffineForm)) (matrix : IntegerMatrix) : Type 0 where
   pub one : length program.statements ≡ 1
-  pub path : path_of program 0 ≡ map step_of nest
+  pub around : bounds_at program 0 ≡ nest
+  pub bare : guards_at program 0 ≡ []
   pub bounds : BoundsFit (length program.parameters) nest
   pub few : length nest ≤ 6
   pub assumed : length program.assumptions ≤ 32
@@ -85,7 +88,7 @@ module _ (program : AffineProgram) (trees : List (List SelectionTree)) (array : 
   d = depth_of program 0
 
   depth : d ≡ length nest
-  depth = ap (λ path. length path) g.path ∙ length-map nest step_of
+  depth = ap (λ loops. length loops) g.around
 
   -- ---- the start label
 
@@ -110,8 +113,9 @@ module _ (program : AffineProgram) (trees : List (List SelectionTree)) (array : 
       let first = map (widened v) (rows_before program []).rows in
       let domain = domain_rows program 0 v (parameter_point program v) (region_values (at.walk program trees array set weight) 0) in
       let inner : length domain ≡ 2 * length nest =
-      ap (λ path. length (within_rows v path (parameter_point program v) (region_values (at.walk program trees array set weight) 0))) g.path
-      ∙ within_rows-many v nest (parameter_point program v) (region_values (at.walk program trees array set weight) 0) (length-variables v (p + 0) d ∙ depth) in
+      ap (λ goals. length goals) (rows-bare program 0 v (parameter_point program v) (region_values (at.walk program trees array set weight) 0) g.bare)
+      ∙ ap (λ loops. length (within_rows v loops (parameter_point program v) (region_values (at.walk program trees array set weight) 0))) g.around
+      ∙ length-within_rows v nest (parameter_point program v) (region_values (at.walk program trees array set weight) 0) (length-variables v (p + 0) d ∙ depth) in
       omega (
         arith,
         length-append (first ++ domain) rows,
@@ -133,7 +137,7 @@ module _ (program : AffineProgram) (trees : List (List SelectionTree)) (array : 
   start-many : length (start_rows (at.walk program trees array set weight) 0 nest) ≡ 2 * length nest
   start-many =
       let v = at.vars program trees array set weight in
-      within_rows-many v nest (parameter_point program v) (region_values (at.walk program trees array set weight) 0) (length-variables v (p + 0) d ∙ depth)
+      length-within_rows v nest (parameter_point program v) (region_values (at.walk program trees array set weight) 0) (length-variables v (p + 0) d ∙ depth)
 
   node-holds : (place : List Step) → AllHold (node_walk program trees [] family place 0 (array_node program trees array set))
   node-holds place = by ((statement_at program 0).writes.array == array) where

@@ -6,7 +6,6 @@ use Rattle.std.proofs.lemmas.Bool.{eqb-false}
 use Rattle.std.proofs.lemmas.List.{length-map, length-replicate}
 use Rattle.base_laws.proofs.Lists.{All-replicate}
 use Rattle.iolb_model.specs.Form.{AffineForm}
-use Rattle.iolb_model.specs.Path.{PathStep}
 use Rattle.iolb_model.specs.Program.{AffineProgram}
 use Rattle.claims.specs.Claims.{AllHold, counted, numbered}
 use Rattle.claims.specs.declared.place.Step.{Step}
@@ -14,10 +13,10 @@ use Rattle.claims.specs.declared.place.Step.TheVariants.{Key, Index}
 use Rattle.claims.proofs.Laws.{AllHold-append}
 use Rattle.claims.proofs.Members.{counts-hold}
 use Rattle.affine_form.specs.Form.{IsSmall}
-use Rattle.affine_form.specs.Rows.{BoundsFit, IsSmallOver, step_of, variables_from, widened, within_rows}
+use Rattle.affine_form.specs.Rows.{BoundsFit, IsSmallOver, variables_from, widened, within_rows}
 use Rattle.affine_form.specs.System.{AffineSystem}
 use Rattle.affine_form.proofs.RowLemmas.{length-variables, variables-over, within_rows-over}
-use Rattle.affine_program.specs.Domain.{depth_of, path_of}
+use Rattle.affine_program.specs.Domain.{bounds_at, depth_of}
 use Rattle.affine_program.specs.Parts.{ProgramParts, meaning, statement_of}
 use Rattle.claims.specs.Shown.{follow_claims, pointless_claims}
 use Rattle.dep_quast.specs.Tree.{SelectionTree}
@@ -37,6 +36,7 @@ use Rattle.projective.specs.Projective.{projection_sets}
 use Rattle.projective.specs.Products.{IsProductCount, RunBelow}
 use Rattle.projective_bounds.specs.Families.{array_families, array_family}
 use Rattle.projective_bounds.specs.WholeLaws.{CanBeShown, WholeTermsFit, WholeTermsHold}
+use Rattle.projective.proofs.Facts.{rows-bare}
 use Rattle.projective_bounds.specs.Multipliers.{rows_taken}
 use Rattle.projective_bounds.specs.Whole.{IsWholeTerm, identity_matrix, stretch_for}
 use Rattle.projective_bounds.proofs.FamilySets.{weights-same}
@@ -99,7 +99,7 @@ whole-is program trees q weights term h = λ i. record {
 }
 
 module _ (parts : ProgramParts) (trees : List (List SelectionTree)) (q : ℕ) (weights : List ℕ) (nest : List (AffineForm × AffineForm)) (count : SumClaims) (can : CanBeShown parts trees q weights)
-    (path : map step_of nest ≡ path_of (meaning parts) 0) (counts : IsProductCount (meaning parts) nest count) where
+    (around : nest ≡ bounds_at (meaning parts) 0) (counts : IsProductCount (meaning parts) nest count) where
   abbrev program : AffineProgram
   program = meaning parts
 
@@ -110,7 +110,7 @@ module _ (parts : ProgramParts) (trees : List (List SelectionTree)) (q : ℕ) (w
   size = length nest
 
   pub depth : depth_of program 0 ≡ size
-  depth = ap (λ (steps : List PathStep). length steps) (sym path) ∙ length-map nest step_of
+  depth = ap (λ (loops : List (AffineForm × AffineForm)). length loops) (sym around)
 
   one-statement : length parts.statements ≡ 1
   one-statement = sym (length-map parts.statements statement_of) ∙ can.projective.one
@@ -121,7 +121,8 @@ module _ (parts : ProgramParts) (trees : List (List SelectionTree)) (q : ℕ) (w
   pub is-nest : IsNest program nest (identity_matrix size)
   is-nest = record {
     one = can.projective.one;
-    path = sym path;
+    around = sym around;
+    bare = can.projective.unguarded;
     bounds = run-fits program (length program.parameters) nest counts.parameters counts.run;
     few = few;
     assumed = can.program.limits.assumptions;
@@ -141,9 +142,10 @@ module _ (parts : ProgramParts) (trees : List (List SelectionTree)) (q : ℕ) (w
     inside-holds =
         let vars = length program.parameters + size in
         let before = map (widened vars) program.assumptions in
-        let rows = within_rows vars (map step_of nest) (variables_from vars 0 (length program.parameters)) (variables_from vars (length program.parameters) size) in
-        subst (λ (steps : List PathStep). AllHold (follow_claims 10 (place ++ Key (codes "inside") ∷ []) (rows_before program nest) 0
-        (within_rows vars steps (variables_from vars 0 (length program.parameters)) (variables_from vars (length program.parameters) size)) (rows_taken (length program.assumptions) (2 * size)))) path
+        let rows = within_rows vars nest (variables_from vars 0 (length program.parameters)) (variables_from vars (length program.parameters) size) in
+        subst (λ (goals : List AffineForm). AllHold (follow_claims 10 (place ++ Key (codes "inside") ∷ []) (rows_before program nest) 0 goals (rows_taken (length program.assumptions) (2 * size))))
+        (ap (λ (loops : List (AffineForm × AffineForm)). within_rows vars loops (variables_from vars 0 (length program.parameters)) (variables_from vars (length program.parameters) size)) around
+        ∙ sym (rows-bare program 0 vars (variables_from vars 0 (length program.parameters)) (variables_from vars (length program.parameters) size) can.projective.unguarded))
         (rows-hold 10 vars (place ++ Key (codes "inside") ∷ []) 0 before rows (length program.assumptions) (2 * size) (sym (length-map program.assumptions (widened vars)))
         (within_rows-over vars nest (variables_from vars 0 (length program.parameters)) (variables_from vars (length program.parameters) size)
         (subst (λ (n : ℕ). BoundsFit n nest) (sym (length-variables vars 0 (length program.parameters))) is-nest.bounds) (variables-over vars 0 (length program.parameters))
@@ -212,7 +214,7 @@ module _ (parts : ProgramParts) (trees : List (List SelectionTree)) (q : ℕ) (w
   pub term-fits : PartitionFits program trees term
   term-fits = record {
     counted = record { there = omega (arith, can.projective.one); each = sym depth; bounds = is-nest.bounds; rows = sym depth; columns = λ some. sym depth };
-    inside = taken-many (length program.assumptions) (2 * size) ∙ ap (λ (n : ℕ). 2 * n) (sym depth);
+    inside = omega (arith, taken-many (length program.assumptions) (2 * size), depth, ap (λ (rows : List AffineForm). length rows) can.projective.unguarded);
     matrix = identity-shape size few;
     positive = can.some;
     families = families-fit 0 (projection_sets program) weights walked;

@@ -3,7 +3,6 @@ use Rattle.std.proofs.Common.{◌≡◌, refl, sym, ◌∙◌, ap, subst, inl, i
 use Rattle.std.proofs.Math.IntN.{pos, negsuc}
 use Rattle.iolb_model.specs.Form.{AffineForm}
 use Rattle.iolb_model.specs.Program.{AffineProgram}
-use Rattle.affine_form.specs.Rows.{step_of}
 use Rattle.affine_program.specs.Parts.{ProgramParts, IsProgram, meaning}
 use Rattle.flow_deps.specs.declared.wanted.Wanted.TheVariants.{Short}
 use Rattle.flow_deps.specs.Answers.{Answers, HasNoShort, Question, following}
@@ -89,8 +88,8 @@ module _ (parts : ProgramParts) (is : IsProgram parts) (projective : IsProjectiv
   pub made-fits : OutlineFits (meaning parts) made
   made-fits = subst (OutlineFits (meaning parts)) same (outline-fits r)
 
-  pub made-runs : AllRun (meaning parts) (length parts.params) (map step_of made.nest)
-  made-runs = subst (λ (o : ColdOutline). AllRun (meaning parts) (length parts.params) (map step_of o.nest)) same (run-all (meaning parts) (p r) (nest r) (ps r) (runs r))
+  pub made-runs : AllRun (meaning parts) (length parts.params) made.nest
+  made-runs = subst (λ (o : ColdOutline). AllRun (meaning parts) (length parts.params) o.nest) same (run-all (meaning parts) (p r) (nest r) (ps r) (runs r))
 
   pub made-tests : (tree : SelectionTree) → IsSourceTree (meaning parts) read tree → TestsFit (variables_at (meaning parts) made.reader) tree
   made-tests tree source = subst (λ (o : ColdOutline). TestsFit (variables_at (meaning parts) o.reader) tree) same (tests-fit (meaning parts) (read_number read) [] tree source.stands.fits)

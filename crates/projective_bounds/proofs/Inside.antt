@@ -1,22 +1,23 @@
 -- Short lists show that the instances of a cold term are in their statement's domain.
-use Rattle.std.proofs.Common.{◌≡◌, ◌≢◌, sym, ◌∙◌, ap, inl, inr, ℕ, ◌+◌, ◌<◌, ◌≤◌, List, [], ◌∷◌, length, map, get_or, arith, lit≤, lit<}
+use Rattle.std.proofs.Common.{◌≡◌, ◌≢◌, sym, ◌∙◌, ap, subst, inl, inr, ℕ, ◌+◌, ◌<◌, ◌≤◌, List, [], ◌∷◌, length, map, get_or, arith, lit≤, lit<}
 use Rattle.std.specs.List.{AllByRecursion}
 use Rattle.std.proofs.Math.IntN.{ℤ, pos, negsuc, ◌+ℤ◌}
 use Rattle.std.proofs.lemmas.Int.{ints}
-use Rattle.std.proofs.lemmas.List.{length-map, get_or-map}
+use Rattle.std.proofs.lemmas.List.{get_or-map}
 use Rattle.base_laws.proofs.Lists.{All-at, All-map}
 use Rattle.iolb_model.specs.Form.{AffineForm, form_value}
-use Rattle.iolb_model.specs.Path.{PathStep}
 use Rattle.affine_form.specs.Form.{variables}
-use Rattle.affine_form.specs.Rows.{step_of, variables_from, widened, within_rows}
+use Rattle.affine_form.specs.System.{AllOver}
+use Rattle.affine_form.specs.Rows.{variables_from, widened, within_rows}
 use Rattle.affine_form.proofs.Combination.{form_value-constant}
 use Rattle.affine_form.proofs.Meaning.{form_value-variable}
 use Rattle.affine_form.proofs.RowLemmas.{length-variables, variables-over}
-use Rattle.affine_program.specs.Domain.{path_of}
+use Rattle.affine_program.specs.Domain.{bounds_at}
 use Rattle.flow_deps.specs.Answers.{HasShortAnswer, Question, following}
 use Rattle.cold_terms.specs.Outline.{bare}
 use Rattle.projective.proofs.Runs.{run-assumed}
 use Rattle.projective.specs.Projective.{Assumes, HoldsOfOne}
+use Rattle.projective.proofs.Facts.{rows-bare}
 use Rattle.projective.proofs.Fits.{within-over}
 use Rattle.projective.proofs.NestRows.{AreWorth, at, less, parameters-kept, variables-worth, within-each, within-picked, worth-same}
 use Rattle.projective.proofs.Picked.{IsPicked, IsWorth, Worth, picked-left, picked-none, picked-right, picked-shows, picked-wide, worth_sum}
@@ -56,27 +57,27 @@ module _ (r : ColdRead) where
   -- ---- the rows of the nest, and of an assumption
 
   abbrev inner_ends : ℕ → Worth
-  inner_ends = ends_of (map step_of (nest r))
+  inner_ends = ends_of (nest r)
 
   nest-picked : (k : ℕ) → k < length r.loops → IsPicked (system r).rows (at (p r + k) ∷ less (inner_ends k) (at (p r + k)) ∷ [])
   nest-picked k below =
-      picked-right (map (widened (vars r)) (program r).assumptions) (within_rows (vars r) (map step_of (nest r)) (variables_from (vars r) 0 (p r)) (variables_from (vars r) (p r) (length (nest r))))
+      picked-right (map (widened (vars r)) (program r).assumptions) (within_rows (vars r) (nest r) (variables_from (vars r) 0 (p r)) (variables_from (vars r) (p r) (length (nest r))))
       (at (p r + k) ∷ less (inner_ends k) (at (p r + k)) ∷ [])
-      (within-picked (vars r) (p r) (map step_of (nest r)) (variables_from (vars r) 0 (p r)) (variables_from (vars r) (p r) (length (nest r))) inner_ends (λ j. at (p r + j)) k
-      (runs-to (program r) (p r) (map step_of (nest r)) (omega arith) (run-all (program r) (p r) (nest r) (ps r) (runs r))) (parameters-kept (vars r) (p r) (omega arith))
-      (variables-worth (vars r) (p r) (length (nest r)) (omega arith)) (omega (arith, below, size r, length-map (nest r) step_of)) (omega (arith, below, size r, length-variables (vars r) (p r) (length (nest r)))))
+      (within-picked (vars r) (p r) (nest r) (variables_from (vars r) 0 (p r)) (variables_from (vars r) (p r) (length (nest r))) inner_ends (λ j. at (p r + j)) k
+      (runs-to (program r) (p r) (nest r) (omega arith) (run-all (program r) (p r) (nest r) (ps r) (runs r))) (parameters-kept (vars r) (p r) (omega arith))
+      (variables-worth (vars r) (p r) (length (nest r)) (omega arith)) (omega (arith, below, size r)) (omega (arith, below, size r, length-variables (vars r) (p r) (length (nest r)))))
 
   abbrev parameter_of : ℕ → ℕ
   parameter_of level = get_or r.below level 0
 
   -- where the loops end
   abbrev ends : ℕ → Worth
-  ends = ends_of (path_of (program r) 0)
+  ends = ends_of (bounds_at (program r) 0)
 
   ends-at : (level : ℕ) (point : List ℤ) → level < d r → ends level point ≡ at (parameter_of level) point +ℤ negsuc 0
   ends-at level point below =
-      ap (λ (path : List PathStep). ends_of path level point) (sym r.run.path)
-      ∙ ends-run (program r) (p r) r.run.nest r.below level point (omega arith) r.run.run (omega (arith, below, ap length r.run.path, length-map r.run.nest step_of))
+      ap (λ (loops : List (AffineForm × AffineForm)). ends_of loops level point) (sym r.run.around)
+      ∙ ends-run (program r) (p r) r.run.nest r.below level point (omega arith) r.run.run (omega (arith, below, ap length r.run.around))
 
   inner-at : (k : ℕ) (point : List ℤ) → k < length r.loops → inner_ends k point ≡ at (parameter_of (get_or r.loops k 0)) point +ℤ negsuc 0
   inner-at k point below =
@@ -91,7 +92,7 @@ module _ (r : ColdRead) where
       record {
         rest = row.rest;
         small = row.small;
-        picked = picked-left (map (widened (vars r)) (program r).assumptions) (within_rows (vars r) (map step_of (nest r)) (variables_from (vars r) 0 (p r)) (variables_from (vars r) (p r) (length (nest r))))
+        picked = picked-left (map (widened (vars r)) (program r).assumptions) (within_rows (vars r) (nest r) (variables_from (vars r) 0 (p r)) (variables_from (vars r) (p r) (length (nest r))))
             (λ point. at (parameter_of level) point +ℤ negsuc row.rest) (picked-wide (vars r) (program r).assumptions ((λ point. at (parameter_of level) point +ℤ negsuc row.rest) ∷ []) row.picked);
       }
 
@@ -105,14 +106,14 @@ module _ (r : ColdRead) where
   follows goal worth picked rest wide is short many small sum =
       (omega (arith, rows-few r), picked-shows (system r) goal picked rest (rows-over r) wide short many small (λ point long. is point ∙ sum point))
 
-  low : (level : ℕ) → level < length (path_of (program r) 0) → (goal : AffineForm) → variables goal ≡ vars r → IsWorth goal (w level) → HasShortAnswer (asks goal)
+  low : (level : ℕ) → level < length (bounds_at (program r) 0) → (goal : AffineForm) → variables goal ≡ vars r → IsWorth goal (w level) → HasShortAnswer (asks goal)
   low level below goal wide is = elim (among level r.loops) [
     | inl there ↦ follows goal (w level) (at (p r + there.0) ∷ []) 0 wide is (picked-one (system r).rows (at (p r + there.0)) (less (inner_ends there.0) (at (p r + there.0))) (nest-picked there.0 there.1)) (lit≤ tt) (lit< tt)
         (λ point. let h : w level point ≡ at (p r + there.0) point = ap (λ (k : ℕ). w k point) (sym there.2) ∙ worth-at there.0 point there.1 in omega (arith, ints))
     | inr others ↦ follows goal (w level) [] 0 wide is (picked-none (system r).rows) (lit≤ tt) (lit< tt) (λ point. let h : w level point ≡ pos 0 = worth-other level point others in omega (arith, ints))
   ]
 
-  high : (level : ℕ) → level < length (path_of (program r) 0) → (goal : AffineForm) → variables goal ≡ vars r → IsWorth goal (less (ends level) (w level)) → HasShortAnswer (asks goal)
+  high : (level : ℕ) → level < length (bounds_at (program r) 0) → (goal : AffineForm) → variables goal ≡ vars r → IsWorth goal (less (ends level) (w level)) → HasShortAnswer (asks goal)
   high level below goal wide is = elim (among level r.loops) [
     | inl there ↦ follows goal (less (ends level) (w level)) (less (inner_ends there.0) (at (p r + there.0)) ∷ []) 0 wide is
         (picked-other (system r).rows (at (p r + there.0)) (less (inner_ends there.0) (at (p r + there.0))) (nest-picked there.0 there.1)) (lit≤ tt) (lit< tt)
@@ -137,7 +138,10 @@ module _ (r : ColdRead) where
   -- that the instances are in their domain has short answers
   pub inside-short : AllByRecursion HasShortAnswer (following (system r) goals)
   inside-short =
+      let bounds = rows-bare (program r) 0 (vars r) (variables_from (vars r) 0 (p r)) (values r) r.projective.unguarded in
       All-map HasShortAnswer asks goals
-      (within-each (λ goal. HasShortAnswer (asks goal)) (vars r) (p r) (path_of (program r) 0) (variables_from (vars r) 0 (p r)) (values r) ends w
-      (runs-to (program r) (p r) (path_of (program r) 0) (omega arith) r.projective.loops.loops) (parameters-kept (vars r) (p r) (omega arith)) values-are
-      (within-over r.parts r.is (some r) (vars r) (variables_from (vars r) 0 (p r)) (values r) (length-variables (vars r) 0 (p r)) (variables-over (vars r) 0 (p r)) (values-small r)) low high)
+      (subst (AllByRecursion (λ goal. HasShortAnswer (asks goal))) (sym bounds)
+      (within-each (λ goal. HasShortAnswer (asks goal)) (vars r) (p r) (bounds_at (program r) 0) (variables_from (vars r) 0 (p r)) (values r) ends w
+      (runs-to (program r) (p r) (bounds_at (program r) 0) (omega arith) r.projective.loops.loops) (parameters-kept (vars r) (p r) (omega arith)) values-are
+      (subst (AllOver (vars r)) bounds
+      (within-over r.parts r.is (some r) r.projective.unguarded (vars r) (variables_from (vars r) 0 (p r)) (values r) (length-variables (vars r) 0 (p r)) (variables-over (vars r) 0 (p r)) (values-small r))) low high))

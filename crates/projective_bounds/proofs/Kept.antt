@@ -5,11 +5,10 @@ use Rattle.std.specs.List.{AllByRecursion, range_with_len}
 use Rattle.std.proofs.lemmas.Bool.{eq-eqb, eqb-true}
 use Rattle.base_laws.proofs.Lists.{All-weaken}
 use Rattle.iolb_model.specs.Form.{AffineForm}
-use Rattle.iolb_model.specs.Path.{PathStep, bounded}
 use Rattle.iolb_model.specs.Program.{Access, AffineProgram, read_at, statement_at}
 use Rattle.affine_form.specs.Form.{variables}
 use Rattle.affine_form.specs.Rows.{IsSmallOver, widened}
-use Rattle.affine_program.specs.Domain.{depth_of, path_of}
+use Rattle.affine_program.specs.Domain.{bounds_at, depth_of}
 use Rattle.dep_quast.specs.Context.{no_row, variables_at}
 use Rattle.dep_quast.specs.Tree.{SelectionTree, leaf, test, source, input, empty, blank}
 use Rattle.dep_quast.specs.Truth.{FitsUnder}
@@ -28,13 +27,13 @@ use Rattle.projective_bounds.specs.KeptLaws.{SourceTreesKeepLoops}
 
 -- ---- the values one turn before
 
-turn-at : (program : AffineProgram) (loop place k : ℕ) (path : List PathStep) → k < length path → (upper : AffineForm) × (get_or (turn_values program loop place path) k none ≡ turn_value program loop (place + k) upper)
+turn-at : (program : AffineProgram) (loop place k : ℕ) (loops : List (AffineForm × AffineForm)) → k < length loops → (upper : AffineForm) × (get_or (turn_values program loop place loops) k none ≡ turn_value program loop (place + k) upper)
 turn-at program loop place k [] below = absurd (omega arith)
-turn-at program loop place zero (bounded lower upper ∷ path) below = (upper, ap (λ (n : ℕ). turn_value program loop n upper) (back place)) where
+turn-at program loop place zero (bounds ∷ loops) below = (bounds.1, ap (λ (n : ℕ). turn_value program loop n bounds.1) (back place)) where
   back : (n : ℕ) → n ≡ n + 0
   back n = omega arith
-turn-at program loop place (suc k) (bounded lower upper ∷ path) below =
-    let there = turn-at program loop (suc place) k path (omega arith) in (there.0, there.1 ∙ ap (λ (n : ℕ). turn_value program loop n there.0) (moved place k)) where
+turn-at program loop place (suc k) (bounds ∷ loops) below =
+    let there = turn-at program loop (suc place) k loops (omega arith) in (there.0, there.1 ∙ ap (λ (n : ℕ). turn_value program loop n there.0) (moved place k)) where
       moved : (m n : ℕ) → suc m + n ≡ m + suc n
       moved m n = omega arith
 
@@ -66,7 +65,7 @@ module _ (program : AffineProgram) (set : List ℕ) (kept : AllByRecursion (λ (
       → AllByRecursion (λ (l : ℕ). get_or (turn_before program loop) l none ≡ loop_form program l) loops
   point-keeps loop out [] h = tt
   point-keeps loop out (l ∷ loops) h =
-      let at = turn-at program loop 0 l (path_of program 0) h.0.0 in
+      let at = turn-at program loop 0 l (bounds_at program 0) h.0.0 in
       (at.1 ∙ ap (λ (n : ℕ). turn_value program loop n at.0) (front l) ∙ kept-value program loop l at.0 out h.0.1, point-keeps loop out loops h.1) where
         front : (n : ℕ) → 0 + n ≡ n
         front n = omega arith

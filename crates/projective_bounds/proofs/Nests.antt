@@ -5,7 +5,6 @@ use Rattle.std.proofs.Math.IntN.{ℤ, negsuc, ◌+ℤ◌}
 use Rattle.base_laws.proofs.Lists.{All-at}
 use Rattle.iolb_model.specs.Form.{AffineForm, form_value}
 use Rattle.iolb_model.specs.Program.{AffineProgram}
-use Rattle.affine_form.specs.Rows.{step_of}
 use Rattle.projective.specs.Projective.{AllRun, Assumes, HoldsOfOne}
 use Rattle.projective.specs.Products.{AreAssumed, RunBelow}
 use Rattle.projective.proofs.NestRows.{at}
@@ -22,14 +21,14 @@ pub nest-runs : (program : AffineProgram) (vars : ℕ) (ps : List ℕ) → AreAs
 nest-runs program vars [] h = tt
 nest-runs program vars (p ∷ ps) h = (record { there = h.0.0; lower = refl; upper = refl; assumed = h.0.1 }, nest-runs program (suc vars) ps h.1)
 
-pub run-all : (program : AffineProgram) (vars : ℕ) (nest : List (AffineForm × AffineForm)) (ps : List ℕ) → RunBelow program vars nest ps → AllRun program vars (map step_of nest)
+pub run-all : (program : AffineProgram) (vars : ℕ) (nest : List (AffineForm × AffineForm)) (ps : List ℕ) → RunBelow program vars nest ps → AllRun program vars nest
 run-all program vars [] ps h = tt
 run-all program vars (b ∷ nest) [] h = absurd h
 run-all program vars (b ∷ nest) (p ∷ ps) h = ((p, h.0), run-all program (suc vars) nest ps h.1)
 
 -- each ends one before its parameter
 pub ends-run : (program : AffineProgram) (vars : ℕ) (nest : List (AffineForm × AffineForm)) (ps : List ℕ) (k : ℕ) (point : List ℤ) → length program.parameters ≤ vars
-    → RunBelow program vars nest ps → k < length nest → ends_of (map step_of nest) k point ≡ at (get_or ps k 0) point +ℤ negsuc 0
+    → RunBelow program vars nest ps → k < length nest → ends_of nest k point ≡ at (get_or ps k 0) point +ℤ negsuc 0
 ends-run program vars [] ps k point more h below = absurd (omega arith)
 ends-run program vars (b ∷ nest) [] k point more h below = absurd h
 ends-run program vars (b ∷ nest) (p ∷ ps) zero point more h below =

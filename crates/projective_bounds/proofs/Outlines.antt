@@ -7,9 +7,10 @@ use Rattle.base_laws.proofs.Lists.{All-append, All-at, All-weaken}
 use Rattle.iolb_model.specs.Form.{AffineForm}
 use Rattle.iolb_model.specs.Program.{AffineProgram, no_statement, read_at, statement_at}
 use Rattle.affine_form.specs.Form.{variables}
-use Rattle.affine_form.specs.Rows.{BoundsFit, IsSmallOver, step_of, variables_from, widened, within_rows}
+use Rattle.affine_form.specs.Rows.{BoundsFit, IsSmallOver, variables_from, widened, within_rows}
 use Rattle.affine_form.specs.System.{AffineSystem, AllOver}
-use Rattle.affine_form.proofs.RowLemmas.{length-variables, variables-over, within_rows-many, within_rows-over}
+use Rattle.affine_form.proofs.Meaning.{length-within_rows}
+use Rattle.affine_form.proofs.RowLemmas.{length-variables, variables-over, within_rows-over}
 use Rattle.affine_program.specs.Domain.{depth_of}
 use Rattle.affine_program.specs.Parts.{ProgramParts, IsProgram, meaning, statement_of}
 use Rattle.cold_terms.specs.Outline.{ColdOutline, OutlineFits, bare}
@@ -117,7 +118,7 @@ module _ (r : ColdRead) where
   size = nest-many p ps ∙ length-map r.loops (λ level. get_or r.below level 0)
 
   pub below-many : length r.below ≡ d
-  below-many = run-many program p r.run.nest r.below r.run.run ∙ sym (length-map r.run.nest step_of) ∙ ap length r.run.path
+  below-many = run-many program p r.run.nest r.below r.run.run ∙ ap length r.run.around
 
   pub assumed : AreAssumed program ps
   assumed =
@@ -136,7 +137,7 @@ module _ (r : ColdRead) where
   wide = map (widened vars) program.assumptions
 
   abbrev inner : List AffineForm
-  inner = within_rows vars (map step_of nest) (variables_from vars 0 p) (variables_from vars p (length nest))
+  inner = within_rows vars nest (variables_from vars 0 p) (variables_from vars p (length nest))
 
   pub rows-over : AllOver vars system.rows
   rows-over =
@@ -151,7 +152,7 @@ module _ (r : ColdRead) where
         length-append wide inner,
         length-map program.assumptions (widened vars),
         r.is.limits.assumptions,
-        within_rows-many vars nest (variables_from vars 0 p) (variables_from vars p (length nest)) (length-variables vars p (length nest)),
+        length-within_rows vars nest (variables_from vars 0 p) (variables_from vars p (length nest)) (length-variables vars p (length nest)),
         size,
         loops-few,
       )

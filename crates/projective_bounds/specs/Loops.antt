@@ -3,8 +3,7 @@ use Rattle.std.specs.Prelude.{◌≡◌, ℕ, ◌<◌, List, length, map, slice_
 use Rattle.std.specs.List.{AllByRecursion}
 use Rattle.iolb_model.specs.Form.{AffineForm}
 use Rattle.iolb_model.specs.Program.{AffineProgram, read_at}
-use Rattle.affine_form.specs.Rows.{step_of}
-use Rattle.affine_program.specs.Domain.{path_of, depth_of}
+use Rattle.affine_program.specs.Domain.{bounds_at, depth_of}
 use Rattle.projective.specs.Products.{RunBelow}
 use Rattle.projective_bounds.specs.Families.{loops_label}
 
@@ -16,7 +15,7 @@ pub record AreLoopsOf (program : AffineProgram) (read : ℕ) (loops : List ℕ) 
 -- the loops run from 0 to below these parameters, from the outermost
 pub record RunLoops (program : AffineProgram) (below : List ℕ) : Type 0 where
   pub nest : List (AffineForm × AffineForm)
-  pub path : map step_of nest ≡ path_of program 0
+  pub around : nest ≡ bounds_at program 0
   pub run : RunBelow program (length program.parameters) nest below
 
 -- the parameters of some of the loops

@@ -4,8 +4,7 @@ use Rattle.std.specs.List.{range_with_len}
 use Rattle.iolb_model.specs.Program.{AffineProgram}
 use Rattle.execution_laws.specs.Inverse.{scaled_entry}
 use Rattle.affine_form.specs.Matrix.{IntegerMatrix}
-use Rattle.affine_form.specs.Rows.{step_of}
-use Rattle.affine_program.specs.Domain.{path_of}
+use Rattle.affine_program.specs.Domain.{bounds_at}
 use Rattle.dep_quast.specs.Tree.{SelectionTree}
 use Rattle.k_partition.specs.declared.term.Shape.TheVariants.{Sum}
 use Rattle.k_partition.specs.Term.{PartitionTerm}
@@ -29,7 +28,7 @@ stretch_for q total = if total == q then 16 else max 1 (q / (total - q))
 -- The term of all instances: its coordinates are the loops, and its families those of the arrays whose weight in the cover isn't 0.
 pub record IsWholeTerm (program : AffineProgram) (trees : List (List SelectionTree)) (q : ℕ) (weights : List ℕ) (term : PartitionTerm) : Type 0 where
   pub statement : term.statement ≡ 0
-  pub nest : map step_of term.nest ≡ path_of program 0
+  pub nest : term.nest ≡ bounds_at program 0
   pub count : IsProductCount program term.nest term.count
   pub inside : term.inside ≡ rows_taken (length program.assumptions) (2 * length term.nest)
   pub matrix : term.matrix ≡ identity_matrix (length term.nest)

@@ -9,7 +9,7 @@ use affine_form::Memory;
 use affine_program::Program;
 use asked_systems::{behind, index_at, is_there, key_at};
 use certificate_fit::counts::{
-    loops_around, order_rows, pairs_between, read_count, subscript_count,
+    domain_size, loops_around, order_rows, pairs_between, read_count, subscript_count,
 };
 use claims::Step;
 use dep_quast::fitting::earlier_count;
@@ -30,7 +30,7 @@ fn of_source(program: &Program, reader: Reader, source: u16, level: u8, key: &st
         "before" => Some(order_rows(program, source, reader.statement, level)),
         "between" => Some(pairs_between(program, reader, source)),
         "cell" => Some(subscript_count(program, reader).saturating_mul(2)),
-        "domain" => Some(loops_around(program, source).saturating_mul(2)),
+        "domain" => Some(domain_size(program, source)),
         "point" => Some(loops_around(program, source)),
         _ => None,
     }
@@ -106,6 +106,23 @@ fn sizes_of(program: &Program, term: &Term) -> (usize, usize) {
     }
 }
 
+/// How many rows say that the instances that a term names are in their domains.
+fn inside_length(program: &Program, term: &Term) -> usize {
+    match term {
+        Term::Cold(cold) => domain_size(program, cold.statement),
+        Term::Partition(partition) => domain_size(program, partition.statement),
+        Term::Wavefront(front) => {
+            let source = match &front.source {
+                Some(spot) => domain_size(program, spot.statement),
+                None => 0,
+            };
+            domain_size(program, front.user.statement)
+                .saturating_add(domain_size(program, front.vertex.statement))
+                .saturating_add(source)
+        }
+    }
+}
+
 /// How many numbers a form has that is over the parameters and so many variables more: the coefficients, and the
 /// constant.
 fn form_length(program: &Program, more: usize) -> usize {
@@ -121,7 +138,7 @@ fn in_lists(program: &Program, term: &Term, steps: &[Step]) -> Option<usize> {
     let (variables, loops) = sizes_of(program, term);
     match (key_at(steps, 0)?, index_at(steps, 1)) {
         ("shown" | "sums", None) => Some(variables),
-        ("inside", None) => Some(loops.saturating_mul(2)),
+        ("inside", None) => Some(inside_length(program, term)),
         ("nest" | "point", None) => Some(loops),
         ("nest", Some(number)) => Some(form_length(program, number)),
         ("point", Some(_)) => Some(form_length(program, variables)),

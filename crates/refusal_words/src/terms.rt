@@ -3,6 +3,7 @@
 use affine_form::{Form, Memory, Multipliers, variables_from};
 use affine_program::Program;
 use asked_systems::{NestAsked, behind, index_at, key_at, write_inside, write_range};
+use certificate_fit::counts::domain_size;
 use claims::Step;
 use dep_quast::Quasts;
 use domain_count::Sums;
@@ -60,7 +61,7 @@ fn write_points(
 }
 
 /// Writes the system of the multipliers of this number which show that the user, the vertex and the source of a
-/// wavefront term are instances, two for each loop of each.
+/// wavefront term are instances, one for each row of their domains.
 fn write_spots(
     page: &mut Page,
     nest: NestAsked<'_>,
@@ -69,13 +70,13 @@ fn write_spots(
     shown: &Multipliers,
 ) -> Result<(), Memory> {
     let user = front.user.point.as_slice();
-    let behind_user = number.checked_sub(user.len().saturating_mul(2));
+    let behind_user = number.checked_sub(domain_size(nest.program, front.user.statement));
     let Some(number_behind) = behind_user else {
         return write_inside(page, nest, front.user.statement, user, number, shown);
     };
     let vertex = front.vertex.point.as_slice();
     match (
-        number_behind.checked_sub(vertex.len().saturating_mul(2)),
+        number_behind.checked_sub(domain_size(nest.program, front.vertex.statement)),
         &front.source,
     ) {
         (None, _) => write_inside(

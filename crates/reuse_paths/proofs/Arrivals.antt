@@ -19,10 +19,10 @@ use Rattle.claims.proofs.Laws.{AllHold-left, AllHold-right}
 use Rattle.affine_form.specs.Multipliers.{FarkasMultipliers}
 use Rattle.affine_form.specs.Substitution.{values_at}
 use Rattle.affine_form.specs.System.{IsMet}
-use Rattle.affine_form.specs.Rows.{widened, equality_rows, step_of}
+use Rattle.affine_form.specs.Rows.{widened, equality_rows}
 use Rattle.affine_form.proofs.ShownLemmas.{Shows-none}
 use Rattle.affine_form.proofs.Meaning.{equality_rows-say, values_at-front}
-use Rattle.affine_program.specs.Domain.{depth_of, domain_size}
+use Rattle.affine_program.specs.Domain.{depth_of}
 use Rattle.dep_quast.specs.Truth.{ReadFits}
 use Rattle.claims.proofs.Systems.{goals-met}
 use Rattle.dep_quast.proofs.Fits.{equality_rows-few}
@@ -49,7 +49,7 @@ use Rattle.reuse_paths.proofs.WordsTaken.{IsTrueOrigin, Takes, walk-takes}
 use Rattle.pebble_game.proofs.InputVertices.{slice_get-below}
 
 module _ (condition : ℕ) (walk : WalkSetting) (target : SpotForms) (place : List Step) (values u : List ℤ) (formed : IsWellFormed walk.program) (admitted : IsAdmitted walk.program values)
-    (within : IsWithin (map step_of walk.nest) values u) (trees-fit : RowsFit walk.program 0 walk.trees) (trees-true : RowsAreTrue walk.program 0 walk.trees)
+    (within : IsWithin walk.nest values u) (trees-fit : RowsFit walk.program 0 walk.trees) (trees-true : RowsAreTrue walk.program 0 walk.trees)
     (aim : walk.aim ≡ arrives_at target) (target-fits : SpotFits walk.program (spot_variables walk) target) where
   abbrev graph : ComputationGraph
   graph = computation_graph walk.program values
@@ -114,7 +114,7 @@ module _ (condition : ℕ) (walk : WalkSetting) (target : SpotForms) (place : Li
           (source-read walk.program values (read_of s read) n x fits here)) h
 
       -- the source is the target
-      arrived : (at : List Step) (rows : List AffineForm) (equal : List FarkasMultipliers) → length equal ≡ domain_size walk.program target.statement → IsMet rows point
+      arrived : (at : List Step) (rows : List AffineForm) (equal : List FarkasMultipliers) → length equal ≡ 2 * depth_of walk.program target.statement → IsMet rows point
           → AllHold (arriving_claims condition walk target at (record { vars = vars; rows = rows }) forms (written writer forms-written) (arrives equal)) → Reaches m
       arrived at rows equal enough met h =
           let goal : List AffineForm = map (widened vars) target.point in
@@ -194,7 +194,7 @@ module _ (condition : ℕ) (walk : WalkSetting) (target : SpotForms) (place : Li
 
   -- spots that are the same are at one place
   pub same-reaches : (at : List Step) (from : SpotForms) (equal : List FarkasMultipliers) (n : ℕ) → SpotFits walk.program (spot_variables walk) from
-      → (from.statement ≡ target.statement → length equal ≡ domain_size walk.program from.statement) → AllHold (same_claims condition walk target at from equal)
+      → (from.statement ≡ target.statement → length equal ≡ 2 * depth_of walk.program from.statement) → AllHold (same_claims condition walk target at from equal)
       → IsAt walk.program values n (instance_of from values u) → Reaches n
   same-reaches at from equal n from-fits enough h here =
       let goals : List AffineForm = equality_rows (spot_variables walk) from.point target.point in

@@ -18,7 +18,6 @@ use Rattle.pebble_game.proofs.Marks.{standing-member}
 use Rattle.claims.specs.Claims.{AllHold, numbered}
 use Rattle.claims.specs.declared.place.Step.{Step}
 use Rattle.claims.proofs.Members.{suc-moved}
-use Rattle.affine_form.specs.Rows.{step_of}
 use Rattle.affine_form.specs.Substitution.{values_at}
 use Rattle.affine_form.specs.System.{IsMet}
 use Rattle.affine_form.proofs.ShownLemmas.{Shows-none}
@@ -227,7 +226,7 @@ module _ (program : AffineProgram) (trees : List (List SelectionTree)) (statemen
       let counted : List Instance = instances_in statement nest values in
       let point = Member-map_from (λ (x : List ℤ). record { statement = statement; values = x }) from.0 (points nest values) from.1.0 in
       let x : List ℤ = point.0 in
-      let within : IsWithin (map step_of nest) values x = All-member (λ (u : List ℤ). IsWithin (map step_of nest) values u) (points nest values) x (points-within nest values) point.1.0 in
+      let within : IsWithin nest values x = All-member (λ (u : List ℤ). IsWithin nest values u) (points nest values) x (points-within nest values) point.1.0 in
       let there : IsExecuted program values from.0 = All-member (IsExecuted program values) counted from.0 executed from.1.0 in
       let instance : Instance = record { statement = statement; values = x } in
       let here : IsAt program values (place_of program values instance) instance = subst (λ (i : Instance). IsAt program values (place_of program values i) i) point.1.1 there in

@@ -17,7 +17,6 @@ use Rattle.claims.proofs.Members.{suc-moved}
 use Rattle.affine_form.specs.Matrix.{IntegerMatrix}
 use Rattle.affine_form.specs.Substitution.{values_at}
 use Rattle.affine_form.specs.System.{IsMet}
-use Rattle.affine_form.specs.Rows.{step_of}
 use Rattle.affine_form.proofs.Meaning.{within_rows-met}
 use Rattle.affine_program.specs.Domain.{depth_of}
 use Rattle.dep_quast.specs.Context.{parameter_point}
@@ -89,16 +88,16 @@ module _ (program : AffineProgram) (trees : List (List SelectionTree)) (statemen
         (context-met (setting reader) values [] formed admitted tt n s x here rows met) walk-fits h
 
     -- what the start walk takes from a counted instance
-    pub start-taken : (x : List ℤ) (n : ℕ) → IsWithin (map step_of nest) values x → (here : IsAt program values n (record { statement = statement; values = x }))
+    pub start-taken : (x : List ℤ) (n : ℕ) → IsWithin nest values x → (here : IsAt program values n (record { statement = statement; values = x }))
         → Taken family.start_label n statement x here family.start (start_rows (setting family.start_label) statement nest)
     start-taken x n within here =
         let walk : WalkSetting = setting family.start_label in
         let vars : ℕ = region_variables walk statement in
         let point : List ℤ = (values ++ []) ++ x in
         taken family.start_label n statement x here start-place (start_rows walk statement nest) family.start
-        (within_rows-met vars (map step_of nest) (parameter_point program vars) (region_values walk statement) point
-        (subst (λ (ps : List ℤ). IsWithin (map step_of nest) ps (values_at (region_values walk statement) point)) (sym (params-there walk values [] formed admitted tt n statement x here))
-        (subst (λ (ys : List ℤ). IsWithin (map step_of nest) values ys) (sym (loops-there walk values [] formed admitted tt n statement x here)) within)))
+        (within_rows-met vars nest (parameter_point program vars) (region_values walk statement) point
+        (subst (λ (ps : List ℤ). IsWithin nest ps (values_at (region_values walk statement) point)) (sym (params-there walk values [] formed admitted tt n statement x here))
+        (subst (λ (ys : List ℤ). IsWithin nest values ys) (sym (loops-there walk values [] formed admitted tt n statement x here)) within)))
         fits.start holds-start
 
     -- what the walk of a region takes from an instance in it

@@ -18,7 +18,7 @@ use Rattle.claims.proofs.Laws.{AllHold-left, AllHold-right}
 use Rattle.affine_form.specs.Multipliers.{FarkasMultipliers}
 use Rattle.affine_form.specs.Substitution.{values_at}
 use Rattle.affine_form.specs.System.{AffineSystem, IsMet}
-use Rattle.affine_form.specs.Rows.{variables_from, step_of}
+use Rattle.affine_form.specs.Rows.{variables_from}
 use Rattle.affine_form.proofs.ShownLemmas.{Shows-none}
 use Rattle.affine_form.proofs.Meaning.{within_rows-says}
 use Rattle.affine_program.specs.Domain.{depth_of}
@@ -117,19 +117,19 @@ module _ (program : AffineProgram) (trees : List (List SelectionTree)) (credits 
       is-credited (Some nest) credit shown is fits enough of h =
           let here_forms : List AffineForm = map (form_at vars forms) forms-written in
           let goals : List AffineForm = nest_goals program vars here_forms nest in
-          let each : length here_forms ≡ length (map step_of nest.nest) =
-          length-map forms-written (form_at vars forms) ∙ says.1.2 ∙ ap (depth_of program) of ∙ sym (fits nest refl).each ∙ sym (length-map nest.nest step_of) in
+          let each : length here_forms ≡ length nest.nest =
+          length-map forms-written (form_at vars forms) ∙ says.1.2 ∙ ap (depth_of program) of ∙ sym (fits nest refl).each in
           let goals-are-met : IsMet goals point =
           goals-met 15 (at ++ Key (codes "rows") ∷ []) system 0 goals shown point
-          (omega (arith, enough, within_rows-few vars (map step_of nest.nest) (parameter_point program vars) here_forms, length-map nest.nest step_of)) h met in
-          let within : IsWithin (map step_of nest.nest) (values_at (parameter_point program vars) point) (values_at here_forms point) =
-          within_rows-says vars (map step_of nest.nest) (parameter_point program vars) here_forms point each goals-are-met in record {
+          (omega (arith, enough, within_rows-few vars nest.nest (parameter_point program vars) here_forms)) h met in
+          let within : IsWithin nest.nest (values_at (parameter_point program vars) point) (values_at here_forms point) =
+          within_rows-says vars nest.nest (parameter_point program vars) here_forms point each goals-are-met in record {
             number = credit;
             credit = nest;
             is = is;
             statement = of;
-            within = subst (λ (v : List ℤ). IsWithin (map step_of nest.nest) v written-instance.values) (params-there walk values [] formed admitted tt n s x here)
-                (subst (λ (v : List ℤ). IsWithin (map step_of nest.nest) (values_at (parameter_point program vars) point) v) (forms_at-values vars forms forms-written point (values ++ x) there) within);
+            within = subst (λ (v : List ℤ). IsWithin nest.nest v written-instance.values) (params-there walk values [] formed admitted tt n s x here)
+                (subst (λ (v : List ℤ). IsWithin nest.nest (values_at (parameter_point program vars) point) v) (forms_at-values vars forms forms-written point (values ++ x) there) within);
           }
 
       -- or in its statement's region

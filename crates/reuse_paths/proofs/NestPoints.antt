@@ -18,26 +18,26 @@ use Rattle.execution_laws.proofs.Ranges.{values-has, values-within}
 use Rattle.execution_laws.proofs.Different.{Differ, Differ-append, Differ-map, Differ-rising, same_head, same_tail}
 use Rattle.affine_form.specs.Substitution.{values_at}
 use Rattle.affine_form.specs.System.{IsMet}
-use Rattle.affine_form.specs.Rows.{widened, variables_from, within_rows, step_of}
+use Rattle.affine_form.specs.Rows.{widened, variables_from, within_rows}
 use Rattle.affine_form.proofs.Meaning.{values-front, values-middle, widened-met, within_rows-met}
 use Rattle.execution_laws.proofs.Ways.{within-length}
 use Rattle.domain_count.specs.Points.{points}
 use Rattle.domain_count.specs.Count.{rows_before}
 
-pub points-within : (nest : List (AffineForm × AffineForm)) (before : List ℤ) → AllByRecursion (λ (u : List ℤ). IsWithin (map step_of nest) before u) (points nest before)
+pub points-within : (nest : List (AffineForm × AffineForm)) (before : List ℤ) → AllByRecursion (λ (u : List ℤ). IsWithin nest before u) (points nest before)
 points-within [] before = (tt, tt)
 points-within (bounds ∷ nest) before =
     let lower : ℤ = form_value bounds.0 before in
     let upper : ℤ = form_value bounds.1 before in
-    let inside : List ℤ → Type 0 = λ u. IsWithin (map step_of (bounds ∷ nest)) before u in
+    let inside : List ℤ → Type 0 = λ u. IsWithin (bounds ∷ nest) before u in
     All-flat_map inside (λ (v : ℤ). map (λ (u : List ℤ). v ∷ u) (points nest (before ++ v ∷ []))) (range lower upper)
     (All-from (λ (v : ℤ). AllByRecursion inside (map (λ (u : List ℤ). v ∷ u) (points nest (before ++ v ∷ [])))) (range lower upper) (λ v m.
     let there : (lower ≤ℤ v) × (v ≤ℤ upper) = values-within upward lower upper v m in
     All-map inside (λ (u : List ℤ). v ∷ u) (points nest (before ++ v ∷ []))
-    (All-weaken (λ (u : List ℤ). IsWithin (map step_of nest) (before ++ v ∷ []) u) (λ (u : List ℤ). inside (v ∷ u)) (points nest (before ++ v ∷ [])) (λ u h. (there.0, there.1, h)) (points-within nest (before ++ v ∷ [])))))
+    (All-weaken (λ (u : List ℤ). IsWithin nest (before ++ v ∷ []) u) (λ (u : List ℤ). inside (v ∷ u)) (points nest (before ++ v ∷ [])) (λ u h. (there.0, there.1, h)) (points-within nest (before ++ v ∷ [])))))
 
 -- all values that are within the bounds are among them
-pub points-all : (nest : List (AffineForm × AffineForm)) (before u : List ℤ) → IsWithin (map step_of nest) before u → Member u (points nest before)
+pub points-all : (nest : List (AffineForm × AffineForm)) (before u : List ℤ) → IsWithin nest before u → Member u (points nest before)
 points-all [] before [] h = inl refl
 points-all [] before (v ∷ u) h = absurd h
 points-all (bounds ∷ nest) before [] h = absurd h
@@ -50,8 +50,8 @@ points-all (bounds ∷ nest) before (v ∷ u) h =
 -- they have a value for each variable
 pub points-long : (nest : List (AffineForm × AffineForm)) (before : List ℤ) → AllByRecursion (λ (u : List ℤ). length u ≡ length nest) (points nest before)
 points-long nest before =
-    All-weaken (λ (u : List ℤ). IsWithin (map step_of nest) before u) (λ (u : List ℤ). length u ≡ length nest) (points nest before)
-    (λ u h. within-length (map step_of nest) before u h ∙ length-map nest step_of) (points-within nest before)
+    All-weaken (λ (u : List ℤ). IsWithin nest before u) (λ (u : List ℤ). length u ≡ length nest) (points nest before)
+    (λ u h. within-length nest before u h) (points-within nest before)
 
 -- a point with another first value stands in none of the other parts
 apart : (v : ℤ) (u : List ℤ) (f : ℤ → List (List ℤ)) (values : List ℤ) → AllByRecursion (λ (w : ℤ). v ≡ w → ⊥) values
@@ -89,27 +89,27 @@ distinct-images f (x ∷ xs) one h = (apart-images f x xs (λ y m. one x y (inl 
 
 -- the rows of a nest are met where the parameters are admitted and the values within its bounds, whatever values follow
 pub nest-met-before : (program : AffineProgram) (nest : List (AffineForm × AffineForm)) (values u rest : List ℤ) → IsWellFormed program → IsAdmitted program values
-    → IsWithin (map step_of nest) values u → IsMet (rows_before program nest).rows ((values ++ u) ++ rest)
+    → IsWithin nest values u → IsMet (rows_before program nest).rows ((values ++ u) ++ rest)
 nest-met-before program nest values u rest formed admitted within =
     let params : ℕ = length program.parameters in
     let vars : ℕ = params + length nest in
     let point : List ℤ = (values ++ u) ++ rest in
     let turned : values ++ (u ++ rest) ≡ point = sym (append_assoc values u rest) in
-    let same : length nest ≡ length u = sym (within-length (map step_of nest) values u within ∙ length-map nest step_of) in
+    let same : length nest ≡ length u = sym (within-length nest values u within) in
     let front : values_at (variables_from vars 0 params) point ≡ values =
     subst (λ (p : List ℤ). values_at (variables_from vars 0 params) p ≡ values) turned (values-front vars params values (u ++ rest) (sym admitted.each) (omega arith)) in
     let end : values_at (variables_from vars params (length nest)) point ≡ u = values-middle vars params (length nest) values u rest (sym admitted.each) same (omega arith) in
     let assumed : IsMet (map (widened vars) program.assumptions) point =
     subst (IsMet (map (widened vars) program.assumptions)) turned (widened-met vars params program.assumptions values (u ++ rest) formed.assumptions (sym admitted.each) admitted.met) in
-    let ranges : IsMet (within_rows vars (map step_of nest) (variables_from vars 0 params) (variables_from vars params (length nest))) point =
-    within_rows-met vars (map step_of nest) (variables_from vars 0 params) (variables_from vars params (length nest)) point
-    (subst (λ (ps : List ℤ). IsWithin (map step_of nest) ps (values_at (variables_from vars params (length nest)) point)) (sym front)
-    (subst (λ (ys : List ℤ). IsWithin (map step_of nest) values ys) (sym end) within)) in
+    let ranges : IsMet (within_rows vars nest (variables_from vars 0 params) (variables_from vars params (length nest))) point =
+    within_rows-met vars nest (variables_from vars 0 params) (variables_from vars params (length nest)) point
+    (subst (λ (ps : List ℤ). IsWithin nest ps (values_at (variables_from vars params (length nest)) point)) (sym front)
+    (subst (λ (ys : List ℤ). IsWithin nest values ys) (sym end) within)) in
     All-append (λ (row : AffineForm). pos 0 ≤ℤ form_value row point) (map (widened vars) program.assumptions)
-    (within_rows vars (map step_of nest) (variables_from vars 0 params) (variables_from vars params (length nest))) assumed ranges
+    (within_rows vars nest (variables_from vars 0 params) (variables_from vars params (length nest))) assumed ranges
 
 -- and where none follow
-pub nest-met : (program : AffineProgram) (nest : List (AffineForm × AffineForm)) (values u : List ℤ) → IsWellFormed program → IsAdmitted program values → IsWithin (map step_of nest) values u
+pub nest-met : (program : AffineProgram) (nest : List (AffineForm × AffineForm)) (values u : List ℤ) → IsWellFormed program → IsAdmitted program values → IsWithin nest values u
     → IsMet (rows_before program nest).rows (values ++ u)
 nest-met program nest values u formed admitted within =
     subst (IsMet (rows_before program nest).rows) (append-nil (values ++ u)) (nest-met-before program nest values u [] formed admitted within)

@@ -8,7 +8,7 @@ use Rattle.base_laws.proofs.Lists.{All-append, All-weaken}
 use Rattle.iolb_model.specs.Form.{AffineForm}
 use Rattle.iolb_model.specs.Program.{IsOver}
 use Rattle.affine_form.specs.Form.{variables, IsSmallForm}
-use Rattle.affine_form.specs.Rows.{IsSmallOver, variables_from, widened, within_rows, step_of}
+use Rattle.affine_form.specs.Rows.{IsSmallOver, variables_from, widened, within_rows}
 use Rattle.affine_form.specs.System.{AllOver}
 use Rattle.affine_form.proofs.RowLemmas.{length-difference, length-variables, small-wider, variables-over}
 use Rattle.affine_program.specs.Domain.{depth_of, domain_rows}
@@ -80,7 +80,7 @@ module _ (walk : WalkSetting) (s : ℕ) (flat : length walk.nest ≡ 0) (few : d
 
   pub context-begins : (rows : List AffineForm) → AllByRecursion (IsOver params) walk.program.assumptions → Begins (region_context walk s rows)
   context-begins rows over =
-      let inner : List AffineForm = within_rows (params + length walk.nest) (map step_of walk.nest) (variables_from (params + length walk.nest) 0 params) (variables_from (params + length walk.nest) params (length walk.nest)) in
+      let inner : List AffineForm = within_rows (params + length walk.nest) walk.nest (variables_from (params + length walk.nest) 0 params) (variables_from (params + length walk.nest) params (length walk.nest)) in
       let outer : List AffineForm = domain_rows walk.program s vars (parameter_point walk.program vars) (region_values walk s) in
       ((map (widened vars) inner ++ outer) ++ rows, in-front walk.program.assumptions inner outer rows over)
 

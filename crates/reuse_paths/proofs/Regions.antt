@@ -10,7 +10,7 @@ use Rattle.iolb_model.specs.Form.{AffineForm, form_value}
 use Rattle.iolb_model.specs.Path.{row_path}
 use Rattle.iolb_model.specs.Program.{IsWellFormed}
 use Rattle.iolb_model.specs.Bound.{IsAdmitted}
-use Rattle.iolb_model.specs.Domain.{IsWithin, IsAt}
+use Rattle.iolb_model.specs.Domain.{IsWithin, IsAt, LeadAlong}
 use Rattle.execution_laws.proofs.Domains.{domains_executed}
 use Rattle.claims.specs.Claims.{AllHold, numbered}
 use Rattle.claims.specs.declared.place.Step.{Step}
@@ -20,9 +20,10 @@ use Rattle.claims.proofs.Members.{suc-moved}
 use Rattle.affine_form.specs.Multipliers.{FarkasMultipliers}
 use Rattle.affine_form.specs.Substitution.{values_at}
 use Rattle.affine_form.specs.System.{IsMet}
-use Rattle.affine_form.specs.Rows.{widened, variables_from, step_of}
+use Rattle.affine_form.specs.Rows.{widened, variables_from}
+use Rattle.affine_form.proofs.RowLemmas.{length-variables}
 use Rattle.affine_form.proofs.Meaning.{values-end, values-front, widened-stay}
-use Rattle.affine_program.specs.Domain.{path_of, depth_of, domain_rows}
+use Rattle.affine_program.specs.Domain.{path_of, bounds_at, depth_of, domain_rows}
 use Rattle.claims.specs.Shown.{follow_claims}
 use Rattle.dep_quast.specs.Context.{parameter_point}
 use Rattle.execution_laws.proofs.Ways.{within-length, there-holds}
@@ -61,10 +62,10 @@ region-fits walk first zero (first_region ∷ nodes) region e h =
 region-fits walk first (suc s) (first_region ∷ nodes) region e h =
     subst (λ (n : ℕ). RegionFits walk n (Some region)) (suc-moved first s) (region-fits walk (suc first) s nodes region e h.1)
 
-module _ (walk : WalkSetting) (values u : List ℤ) (formed : IsWellFormed walk.program) (admitted : IsAdmitted walk.program values) (within : IsWithin (map step_of walk.nest) values u) where
+module _ (walk : WalkSetting) (values u : List ℤ) (formed : IsWellFormed walk.program) (admitted : IsAdmitted walk.program values) (within : IsWithin walk.nest values u) where
   -- the parameters and the point of the nest have as many values as a spot has variables
   pub spot-many : spot_variables walk ≡ length (values ++ u)
-  spot-many = omega (arith, length-append values u, admitted.each, within-length (map step_of walk.nest) values u within, length-map walk.nest step_of)
+  spot-many = omega (arith, length-append values u, admitted.each, within-length walk.nest values u within)
 
   -- the values of the first variables, and of forms behind them
   pub behind-nest : (vars : ℕ) (forms : List AffineForm) (at rest : List ℤ) → spot_variables walk ≤ vars → at ≡ (values ++ u) ++ rest
@@ -88,11 +89,11 @@ module _ (walk : WalkSetting) (values u : List ℤ) (formed : IsWellFormed walk.
 
   module _ (n s : ℕ) (x : List ℤ) (here : IsAt walk.program values n (record { statement = s; values = x })) where
     -- the loop values are in the statement's domain
-    in-domain : IsWithin (path_of walk.program s) values x
-    in-domain = there-holds (row_path walk.program.tree s) (λ path. IsWithin path values x) ((domains_executed walk.program values (record { statement = s; values = x }) formed).0 (n, here))
+    in-domain : LeadAlong (path_of walk.program s) values x
+    in-domain = there-holds (row_path walk.program.tree s) (λ path. LeadAlong path values x) ((domains_executed walk.program values (record { statement = s; values = x }) formed).0 (n, here))
 
     pub values-many : depth_of walk.program s ≡ length x
-    values-many = sym (within-length (path_of walk.program s) values x in-domain)
+    values-many = sym (within-length (bounds_at walk.program s) values x in-domain.0)
 
     -- the parameters and the loop values, as forms over the variables of the region
     pub params-there : values_at (parameter_point walk.program (region_variables walk s)) ((values ++ u) ++ x) ≡ values
@@ -118,9 +119,9 @@ module _ (walk : WalkSetting) (values u : List ℤ) (formed : IsWellFormed walk.
         let domain : List AffineForm = domain_rows walk.program s vars (parameter_point walk.program vars) (region_values walk s) in
         let nest-rows : IsMet nest point = widened-stay vars (rows_before walk.program walk.nest).rows point (nest-met-before walk.program walk.nest values u x formed admitted within) in
         let domain-rows : IsMet domain point =
-        domain_rows-met walk.program s vars (parameter_point walk.program vars) (region_values walk s) point
-        (subst (λ (ps : List ℤ). IsWithin (path_of walk.program s) ps (values_at (region_values walk s) point)) (sym params-there)
-        (subst (λ (ys : List ℤ). IsWithin (path_of walk.program s) values ys) (sym loops-there) in-domain)) in
+        domain_rows-met walk.program s vars (parameter_point walk.program vars) (region_values walk s) point formed (length-variables vars 0 (length walk.program.parameters))
+        (subst (λ (ps : List ℤ). LeadAlong (path_of walk.program s) ps (values_at (region_values walk s) point)) (sym params-there)
+        (subst (λ (ys : List ℤ). LeadAlong (path_of walk.program s) values ys) (sym loops-there) in-domain)) in
         All-append (λ (row : AffineForm). pos 0 ≤ℤ form_value row point) (nest ++ domain) rows
         (All-append (λ (row : AffineForm). pos 0 ≤ℤ form_value row point) nest domain nest-rows domain-rows) met
 

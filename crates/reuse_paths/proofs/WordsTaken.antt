@@ -18,7 +18,6 @@ use Rattle.claims.specs.declared.place.Step.TheVariants.{Key, Index}
 use Rattle.claims.proofs.Laws.{AllHold-left, AllHold-right}
 use Rattle.affine_form.specs.Substitution.{values_at}
 use Rattle.affine_form.specs.System.{IsMet}
-use Rattle.affine_form.specs.Rows.{step_of}
 use Rattle.affine_program.specs.Domain.{depth_of}
 use Rattle.dep_quast.specs.Context.{ReadOf, no_row, variables_at}
 use Rattle.dep_quast.specs.Tree.{Leaf, source, input, empty, blank, SelectionTree, leaf, test as tree_test, leaf_at}
@@ -61,7 +60,7 @@ IsTrueOrigin program parameters reader place values as_input =
 IsTrueOrigin program parameters reader place values unknown = Unit {0}
 
 module _ (condition : ℕ) (walk : WalkSetting) (values u : List ℤ) (formed : IsWellFormed walk.program) (admitted : IsAdmitted walk.program values)
-    (within : IsWithin (map step_of walk.nest) values u) (trees-fit : RowsFit walk.program 0 walk.trees) (trees-true : RowsAreTrue walk.program 0 walk.trees)
+    (within : IsWithin walk.nest values u) (trees-fit : RowsFit walk.program 0 walk.trees) (trees-true : RowsAreTrue walk.program 0 walk.trees)
     (n s : ℕ) (x : List ℤ) (here : IsAt walk.program values n (record { statement = s; values = x })) where
   abbrev point : List ℤ
   point = (values ++ u) ++ x

@@ -8,7 +8,6 @@ use Rattle.iolb_model.specs.Execution.{Instance}
 use Rattle.iolb_model.specs.Graph.{computation_graph}
 use Rattle.claims.specs.Claims.{AllHold}
 use Rattle.claims.specs.declared.place.Step.{Step}
-use Rattle.affine_form.specs.Rows.{step_of}
 use Rattle.affine_form.specs.Substitution.{values_at}
 use Rattle.dep_quast.specs.Tree.{SelectionTree}
 use Rattle.reuse_paths.specs.ReachClaims.{reach_claims}
@@ -24,7 +23,7 @@ instance_of spot parameters point = record { statement = spot.statement; values 
 -- At all admitted parameter values, of any size, and at each point within the nest's bounds at which the one spot is an
 -- instance of the execution, the other is that instance, or it is reached from it by going from vertex to predecessor.
 abbrev pub Arrives : AffineProgram → List (AffineForm × AffineForm) → SpotForms → SpotForms → Type 0
-Arrives program nest from to = (parameters point : List ℤ) (start : ℕ) → IsAdmitted program parameters → IsWithin (map step_of nest) parameters point
+Arrives program nest from to = (parameters point : List ℤ) (start : ℕ) → IsAdmitted program parameters → IsWithin nest parameters point
     → IsAt program parameters start (instance_of from parameters point)
     → (end : ℕ) × (IsAt program parameters end (instance_of to parameters point) × IsReached (computation_graph program parameters) start end)
 

@@ -8,7 +8,7 @@ use Rattle.claims.specs.declared.place.Step.{Step}
 use Rattle.claims.specs.declared.place.Step.TheVariants.{Key, Index}
 use Rattle.affine_form.specs.Multipliers.{FarkasMultipliers}
 use Rattle.affine_form.specs.System.{AffineSystem}
-use Rattle.affine_form.specs.Rows.{widened, within_rows, equality_rows, step_of}
+use Rattle.affine_form.specs.Rows.{widened, within_rows, equality_rows}
 use Rattle.claims.specs.Shown.{IsFew, IsPointless, follow_claims}
 use Rattle.dep_quast.specs.Context.{ReadOf, reference_of, parameter_point}
 use Rattle.reuse_paths.specs.Families.{CreditedNest, label_at}
@@ -46,7 +46,7 @@ going_goals walk vars point as_input = []
 going_goals walk vars point unknown = []
 
 abbrev pub nest_goals : AffineProgram → ℕ → List AffineForm → CreditedNest → List AffineForm
-nest_goals program vars values credit = within_rows vars (map step_of credit.nest) (parameter_point program vars) values
+nest_goals program vars values credit = within_rows vars credit.nest (parameter_point program vars) values
 
 abbrev pub credit_goals : AffineProgram → List CreditedNest → ℕ → List AffineForm → ℕ → LeafOrigin → List AffineForm
 credit_goals program credits vars point credit origin =

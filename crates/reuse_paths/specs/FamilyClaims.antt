@@ -7,7 +7,7 @@ use Rattle.claims.specs.declared.place.Step.{Step}
 use Rattle.claims.specs.declared.place.Step.TheVariants.{Key, Index}
 use Rattle.affine_form.specs.Combination.{coefficient_of}
 use Rattle.affine_form.specs.Matrix.{IntegerMatrix, entry}
-use Rattle.affine_form.specs.Rows.{within_rows, step_of}
+use Rattle.affine_form.specs.Rows.{within_rows}
 use Rattle.affine_program.specs.Domain.{depth_of}
 use Rattle.dep_quast.specs.Context.{parameter_point}
 use Rattle.dep_quast.specs.Tree.{SelectionTree}
@@ -47,7 +47,7 @@ label_rows matrix scale parameters loops place index (row ∷ set) (form ∷ lab
 -- the rows of a nest of instances of a statement, whose variables are the loop values
 abbrev pub start_rows : WalkSetting → ℕ → List (AffineForm × AffineForm) → List AffineForm
 start_rows walk statement nest =
-    let vars = region_variables walk statement in within_rows vars (map step_of nest) (parameter_point walk.program vars) (region_values walk statement)
+    let vars = region_variables walk statement in within_rows vars nest (parameter_point walk.program vars) (region_values walk statement)
 
 -- the walk from the instances that are counted, whose tree stands at this place
 abbrev pub start_tree : AffineProgram → List (List SelectionTree) → ℕ → List (AffineForm × AffineForm) → List CreditedNest → FamilyForms → List Step → List Claim

@@ -1,8 +1,8 @@
 -- What makes a reach fit a program.
-use Rattle.std.specs.Prelude.{◌≡◌, List, length}
+use Rattle.std.specs.Prelude.{◌≡◌, ◌*◌, List, length}
 use Rattle.iolb_model.specs.Form.{AffineForm}
 use Rattle.iolb_model.specs.Program.{AffineProgram}
-use Rattle.affine_program.specs.Domain.{domain_size}
+use Rattle.affine_program.specs.Domain.{depth_of}
 use Rattle.dep_quast.specs.Tree.{SelectionTree}
 use Rattle.reuse_paths.specs.ReachClaims.{setting_of}
 use Rattle.reuse_paths.specs.WalkFits.{NestFits, SpotFits, RegionsFit}
@@ -11,7 +11,7 @@ use Rattle.reuse_paths.specs.Walks.{SpotForms, ReachClaim, same, walked}
 
 -- what shows that the spots are the same, or that the walk arrives, fits
 abbrev pub ShownFits : WalkSetting → SpotForms → SpotForms → ReachClaim → Type 0
-ShownFits walk target from (same equal) = from.statement ≡ target.statement → length equal ≡ domain_size walk.program from.statement
+ShownFits walk target from (same equal) = from.statement ≡ target.statement → length equal ≡ 2 * depth_of walk.program from.statement
 ShownFits walk target from (walked start nodes) =
     (length start ≡ length (entering_rows walk (spot_variables walk) (region_at nodes from.statement) from.point))
     × (length nodes ≡ length walk.program.statements) × RegionsFit walk 0 nodes

@@ -9,7 +9,6 @@ use Rattle.iolb_model.specs.Domain.{IsWithin, IsAt}
 use Rattle.iolb_model.specs.Execution.{Instance}
 use Rattle.iolb_model.specs.Source.{Cell, Source, written_at, input}
 use Rattle.affine_form.specs.Matrix.{IntegerMatrix}
-use Rattle.affine_form.specs.Rows.{step_of}
 use Rattle.affine_form.specs.Substitution.{values_at}
 use Rattle.affine_form.specs.System.{IsMet}
 use Rattle.claims.specs.Claims.{AllHold, numbered}
@@ -59,7 +58,7 @@ pub record IsCreditedBy (credits : List CreditedNest) (parameters : List ℤ) (i
   pub credit : CreditedNest
   pub is : slice_get credits number ≡ Some credit
   pub statement : instance.statement ≡ credit.statement
-  pub within : IsWithin (map step_of credit.nest) parameters instance.values
+  pub within : IsWithin credit.nest parameters instance.values
 
 -- A source is a word of a family with this label: an input cell, or an instance that is credited or in its statement's region.
 abbrev pub IsWord : AffineProgram → List CreditedNest → FamilyForms → List ℤ → List ℤ → Source → Type 0
@@ -76,7 +75,7 @@ pub record TakesWord (program : AffineProgram) (credits : List CreditedNest) (fa
 -- takes from each instance in the nest a word with its start label; and the walk of a region takes from each instance in it a
 -- word with the instance's own label. So all words of a walk have the label of its start.
 pub record IsSoundFamily (program : AffineProgram) (statement : ℕ) (nest : List (AffineForm × AffineForm)) (credits : List CreditedNest) (family : FamilyForms) : Type 0 where
-  pub begins : (parameters values : List ℤ) (place : ℕ) → IsAdmitted program parameters → IsWithin (map step_of nest) parameters values
+  pub begins : (parameters values : List ℤ) (place : ℕ) → IsAdmitted program parameters → IsWithin nest parameters values
       → IsAt program parameters place (record { statement = statement; values = values })
       → TakesWord program credits family parameters (values_at family.start_label (parameters ++ values)) family.start place (record { statement = statement; values = values })
   pub goes_on : (parameters : List ℤ) (place : ℕ) (instance : Instance) → IsAdmitted program parameters → IsAt program parameters place instance

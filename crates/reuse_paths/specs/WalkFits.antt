@@ -5,7 +5,7 @@ use Rattle.std.specs.List.{AllByRecursion}
 use Rattle.iolb_model.specs.Form.{AffineForm}
 use Rattle.iolb_model.specs.Program.{Array, AffineProgram}
 use Rattle.affine_form.specs.Rows.{BoundsFit, IsSmallOver}
-use Rattle.affine_program.specs.Domain.{depth_of, domain_size}
+use Rattle.affine_program.specs.Domain.{depth_of}
 use Rattle.dep_quast.specs.Context.{ReadOf}
 use Rattle.dep_quast.specs.Truth.{ReadFits}
 use Rattle.reuse_paths.specs.EntryClaims.{going_goals}
@@ -86,7 +86,7 @@ ArrivingFits walk target reader origin (stops label) = length label ≡ 0
 ArrivingFits walk target reader origin (is_credited credit rows label) = ⊥
 ArrivingFits walk target reader origin (goes_on rows label) =
     (length rows ≡ length (going_goals walk (region_variables walk reader.statement) (reading_point walk reader.statement) origin)) × (length label ≡ 0)
-ArrivingFits walk target reader origin (arrives equal) = length equal ≡ domain_size walk.program target.statement
+ArrivingFits walk target reader origin (arrives equal) = length equal ≡ 2 * depth_of walk.program target.statement
 
 -- One of a walk that keeps labels does: it has two multipliers for each form of the label, and a credit that it names is
 -- there and has two rows for each variable. None arrives.

@@ -3,7 +3,7 @@
 
 ghost use Rattle.std.specs.Prelude.{◌≡◌, ◌+◌, ◌*◌, ◌≤◌, ◌++◌, ◌∷◌, [], length, map, slice_get, None, Some, IsSomeAnd, MatchOption, codes};
 ghost use Rattle.std.specs.List.{AllByRecursion};
-ghost use Rattle.affine_form.specs.Rows.{step_of, within_rows, BoundsFit, IsSmallOver};
+ghost use Rattle.affine_form.specs.Rows.{within_rows, BoundsFit, IsSmallOver};
 ghost use Rattle.affine_form.specs.System.{AllOver};
 ghost use Rattle.affine_program.specs.Domain.{depth_of};
 ghost use Rattle.claims.specs.Claims.{Decides};
@@ -48,7 +48,7 @@ fn nest_shown(
     requires values_over { AllByRecursion (IsSmallOver (length (walk_of walking.now).program.parameters + depth_of (walk_of walking.now).program statement)) values.now }
     requires enough { length shown.now ≡ 2 * length nest.now }
     ensures { Decides (follow_claims walking.now.condition (place.now ++ Key (codes "rows") ∷ []) (record { vars = region_variables (walk_of walking.now) statement; rows = rows.now }) 0
-        (within_rows (region_variables (walk_of walking.now) statement) (map step_of nest.now) (parameter_point (walk_of walking.now).program (region_variables (walk_of walking.now) statement))
+        (within_rows (region_variables (walk_of walking.now) statement) nest.now (parameter_point (walk_of walking.now).program (region_variables (walk_of walking.now) statement))
         (map (form_at (region_variables (walk_of walking.now) statement) (reading_point (walk_of walking.now) statement)) values.now)) shown.now) result }
 {
     let vars = region_variables(walking, statement);

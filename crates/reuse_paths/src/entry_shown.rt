@@ -5,7 +5,7 @@ ghost use Rattle.std.specs.Prelude.{◌≡◌, ◌+◌, ◌*◌, ◌<◌, ◌≤
 ghost use Rattle.std.specs.List.{AllByRecursion};
 ghost use Rattle.affine_form.specs.Rows.{IsSmallOver};
 ghost use Rattle.affine_form.specs.System.{AllOver};
-ghost use Rattle.affine_program.specs.Domain.{depth_of, domain_size};
+ghost use Rattle.affine_program.specs.Domain.{depth_of};
 ghost use Rattle.claims.specs.Claims.{Decides};
 ghost use Rattle.claims.specs.declared.place.Step.TheVariants.{Key};
 ghost use Rattle.claims.specs.Shown.{follow_claims, IsFew, IsPointless};
@@ -92,7 +92,7 @@ fn target_shown(
     requires rows_over { AllOver (region_variables (walk_of walking.now) statement) rows.now }
     requires few { IsFew (length rows.now) }
     requires origin { OriginFits (walk_of walking.now).program (length (walk_of walking.now).program.parameters + depth_of (walk_of walking.now).program statement) (written target.now.statement values.now) }
-    requires enough { length equal.now ≡ domain_size (walk_of walking.now).program target.now.statement }
+    requires enough { length equal.now ≡ 2 * depth_of (walk_of walking.now).program target.now.statement }
     ensures { Decides (follow_claims walking.now.condition (place.now ++ Key (codes "arrive") ∷ []) (record { vars = region_variables (walk_of walking.now) statement; rows = rows.now }) 0
         (arriving_goals (spot_of target.now) (region_variables (walk_of walking.now) statement) (reading_point (walk_of walking.now) statement) (written target.now.statement values.now)) equal.now) result }
 {
@@ -128,7 +128,7 @@ fn arrival_shown(
     requires rows_over { AllOver (region_variables (walk_of walking.now) statement) rows.now }
     requires few { IsFew (length rows.now) }
     requires origin { OriginFits (walk_of walking.now).program (length (walk_of walking.now).program.parameters + depth_of (walk_of walking.now).program statement) (origin_of origin.now) }
-    requires enough { length equal.now ≡ domain_size (walk_of walking.now).program target.now.statement }
+    requires enough { length equal.now ≡ 2 * depth_of (walk_of walking.now).program target.now.statement }
     ensures { Decides (arriving_claims walking.now.condition (walk_of walking.now) (spot_of target.now) place.now
         (record { vars = region_variables (walk_of walking.now) statement; rows = rows.now }) (reading_point (walk_of walking.now) statement) (origin_of origin.now) (arrives equal.now)) result }
 {

@@ -2,7 +2,7 @@
 #![tactic(auto, using(claims::proofs::Found::in_a_row))]
 
 ghost use Rattle.std.specs.Prelude.{◌≡◌, ◌*◌, ◌++◌, ◌∷◌, [], ℕ, length, map, option_map, OnOk, IfErr, codes};
-ghost use Rattle.affine_program.specs.Domain.{domain_size};
+ghost use Rattle.affine_program.specs.Domain.{depth_of};
 ghost use Rattle.affine_program.specs.Parts.{meaning};
 ghost use Rattle.claims.specs.Claims.{AllHold, Decides, IsRefusal, numbered};
 ghost use Rattle.claims.specs.declared.place.Step.TheVariants.{Key};
@@ -40,7 +40,7 @@ fn same_shown(
     requires nest { NestFits (walk_of walking.now).program (walk_of walking.now).nest }
     requires target_fits { SpotFits (walk_of walking.now).program (spot_variables (walk_of walking.now)) (spot_of target.now) }
     requires from_fits { SpotFits (walk_of walking.now).program (spot_variables (walk_of walking.now)) (spot_of from.now) }
-    requires enough { from.now.statement ≡ target.now.statement → length equal.now ≡ domain_size (walk_of walking.now).program from.now.statement }
+    requires enough { from.now.statement ≡ target.now.statement → length equal.now ≡ 2 * depth_of (walk_of walking.now).program from.now.statement }
     ensures { Decides (same_claims walking.now.condition (walk_of walking.now) (spot_of target.now) place.now (spot_of from.now) equal.now) result }
 {
     let list = place.within(alloc, Step::Key(ObjectKey("same")))?;

@@ -13,13 +13,14 @@ use Rattle.iolb_model.specs.Bound.{IsAdmitted}
 use Rattle.iolb_model.specs.Source.{same_cell, read_cell}
 use Rattle.iolb_model.specs.Game.{loads_of}
 use Rattle.pebble_game.specs.Cold.{ReadsInput}
-use Rattle.iolb_model.specs.Domain.{IsWithin, IsAt}
+use Rattle.iolb_model.specs.Domain.{IsWithin, IsAt, LeadAlong}
 use Rattle.execution_laws.proofs.Domains.{domains_executed, way-there}
 use Rattle.pebble_game.proofs.InputVertices.{each_read_loaded, input_reads_loaded, input_reads_vertices}
 use Rattle.claims.specs.declared.place.Step.{Step}
 use Rattle.claims.specs.declared.place.Step.TheVariants.{Key}
 use Rattle.affine_form.specs.System.{IsMet}
-use Rattle.affine_form.specs.Rows.{variables_from, step_of}
+use Rattle.affine_form.specs.Rows.{variables_from}
+use Rattle.affine_form.proofs.RowLemmas.{length-variables}
 use Rattle.affine_form.proofs.Meaning.{values-front}
 use Rattle.affine_program.specs.Domain.{path_of}
 use Rattle.dep_quast.specs.Tree.{SelectionTree}
@@ -57,7 +58,7 @@ module _ (program : AffineProgram) (place : List Step) (tree : SelectionTree) (t
   holds-undone = hold-undone term.matrix term.scale (length program.parameters) (length term.nest) (cell_forms program term) place (AllHold-right (inside_claims program place term ++ term_leaves program place tree term) matrix holds)
 
   -- a point's instance reads an input
-  reads : (u : List ℤ) → IsWithin (map step_of term.nest) values u → ReadsInput program values term.reader.statement term.reader.read (instance_values term values u)
+  reads : (u : List ℤ) → IsWithin term.nest values u → ReadsInput program values term.reader.statement term.reader.read (instance_values term values u)
   reads u within =
       let vars : ℕ = nest_variables program term in
       let at : List ℤ = values ++ u in
@@ -67,12 +68,12 @@ module _ (program : AffineProgram) (place : List Step) (tree : SelectionTree) (t
       let goals : IsMet (inside_goals program term) at =
       goals-met 10 (place ++ Key (codes "inside") ∷ []) (nest_system program term) 0 (inside_goals program term) term.inside at
       (omega (arith, fits.parts.inside, domain_rows-few program term.reader.statement vars params term.point)) holds-inside met in
-      let inside : IsWithin path values (instance_values term values u) =
-      subst (λ (q : List ℤ). IsWithin path q (instance_values term values u)) (values-front vars (length program.parameters) values u (sym admitted.each) (omega arith))
-      (domain_rows-says program term.reader.statement vars params term.point at fits.parts.point goals) in
+      let inside : LeadAlong path values (instance_values term values u) =
+      subst (λ (q : List ℤ). LeadAlong path q (instance_values term values u)) (values-front vars (length program.parameters) values u (sym admitted.each) (omega arith))
+      (domain_rows-says program term.reader.statement vars params term.point at formed (length-variables vars 0 (length program.parameters)) fits.parts.point goals) in
       let there : (n : ℕ) × IsAt program values n (record { statement = term.reader.statement; values = instance_values term values u }) =
       (domains_executed program values (record { statement = term.reader.statement; values = instance_values term values u }) formed).1
-      (holds-there (row_path program.tree term.reader.statement) (λ p. IsWithin p values (instance_values term values u)) (way-there program term.reader.statement formed fits.parts.read.statement) inside) in
+      (holds-there (row_path program.tree term.reader.statement) (λ p. LeadAlong p values (instance_values term values u)) (way-there program term.reader.statement formed fits.parts.read.statement) inside) in
       record {
         there = fits.parts.read.read;
         place = there.0;
@@ -83,7 +84,7 @@ module _ (program : AffineProgram) (place : List Step) (tree : SelectionTree) (t
 
   pub all-read : AllByRecursion (ReadsInput program values term.reader.statement term.reader.read) (all_instances term values)
   all-read = All-map (ReadsInput program values term.reader.statement term.reader.read) (instance_values term values) (points term.nest values)
-      (All-weaken (λ (u : List ℤ). IsWithin (map step_of term.nest) values u) (λ (u : List ℤ). ReadsInput program values term.reader.statement term.reader.read (instance_values term values u)) (points term.nest values) reads (points-within term.nest values))
+      (All-weaken (λ (u : List ℤ). IsWithin term.nest values u) (λ (u : List ℤ). ReadsInput program values term.reader.statement term.reader.read (instance_values term values u)) (points term.nest values) reads (points-within term.nest values))
 
   pub all-differ : IsDistinct same_cell (map (read_cell program values term.reader.statement term.reader.read) (all_instances term values))
   all-differ = subst (IsDistinct same_cell) (sym (map-map (read_cell program values term.reader.statement term.reader.read) (instance_values term values) (points term.nest values)))

@@ -11,7 +11,7 @@ use Rattle.iolb_model.specs.Source.{Source}
 use Rattle.execution_laws.proofs.Ordered.{All-member, Member-map_from}
 use Rattle.pebble_game.proofs.Marks.{standing-member}
 use Rattle.affine_form.specs.Form.{IsSmallForm}
-use Rattle.affine_form.specs.Rows.{widened, step_of}
+use Rattle.affine_form.specs.Rows.{widened}
 use Rattle.affine_form.specs.Substitution.{values_at}
 use Rattle.affine_form.specs.System.{AllOver}
 use Rattle.domain_count.specs.Points.{points}
@@ -64,7 +64,7 @@ front-covers program term formed sound parameters vertex admitted stands =
     let word : List ℤ → ℕ = word_vertex program term parameters in
     let found = Member-map_from word vertex all (standing-member (front_footprint program term parameters) vertex stands) in
     let u : List ℤ = found.0 in
-    let within : IsWithin (map step_of term.nest) parameters u = All-member (λ (x : List ℤ). IsWithin (map step_of term.nest) parameters x) all u (points-within term.nest parameters) found.1.0 in
+    let within : IsWithin term.nest parameters u = All-member (λ (x : List ℤ). IsWithin term.nest parameters x) all u (points-within term.nest parameters) found.1.0 in
     let at : IsSoundAt program term parameters u = All-member (IsSoundAt program term parameters) all u (sound parameters admitted).each found.1.0 in
     inl (record {
       values = u;

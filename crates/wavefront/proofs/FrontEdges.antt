@@ -8,7 +8,7 @@ use Rattle.base_laws.proofs.Lists.{All-append}
 use Rattle.iolb_model.specs.Form.{AffineForm, form_value}
 use Rattle.iolb_model.specs.Path.{row_path}
 use Rattle.iolb_model.specs.Program.{AffineProgram, IsWellFormed}
-use Rattle.iolb_model.specs.Domain.{IsAt, IsWithin}
+use Rattle.iolb_model.specs.Domain.{IsAt, LeadAlong}
 use Rattle.iolb_model.specs.Execution.{Instance}
 use Rattle.iolb_model.specs.Source.{written_at, input, read_cell}
 use Rattle.execution_laws.proofs.Domains.{domains_executed}
@@ -19,7 +19,7 @@ use Rattle.affine_form.specs.System.{AffineSystem, IsMet}
 use Rattle.affine_form.specs.Rows.{equality_rows, put_in}
 use Rattle.affine_form.proofs.Meaning.{equality_rows-say, values_at-put_in}
 use Rattle.affine_form.proofs.ShownLemmas.{Shows-follows, Shows-none}
-use Rattle.affine_program.specs.Domain.{path_of, depth_of}
+use Rattle.affine_program.specs.Domain.{bounds_at, depth_of}
 use Rattle.claims.specs.Claims.{AllHold}
 use Rattle.claims.specs.declared.place.Step.{Step}
 use Rattle.dep_quast.specs.Context.{ReadOf}
@@ -43,8 +43,8 @@ follow-met system (goal ∷ goals) (m ∷ shown) point h met = (Shows-follows sy
 pub executed-long : (program : AffineProgram) (parameters : List ℤ) (n : ℕ) (instance : Instance) → IsWellFormed program → IsAt program parameters n instance
     → length instance.values ≡ depth_of program instance.statement
 executed-long program parameters n instance formed at =
-    within-length (path_of program instance.statement) parameters instance.values
-    (there-holds (row_path program.tree instance.statement) (λ path. IsWithin path parameters instance.values) ((domains_executed program parameters instance formed).0 (n, at)))
+    within-length (bounds_at program instance.statement) parameters instance.values
+    (there-holds (row_path program.tree instance.statement) (λ path. LeadAlong path parameters instance.values) ((domains_executed program parameters instance formed).0 (n, at))).0
 
 module _ (vars : ℕ) (rows forms : List AffineForm) (source : Option SpotForms) (place : List Step) where
   -- an open leaf has an entry whose claim holds

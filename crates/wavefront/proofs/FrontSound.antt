@@ -10,7 +10,7 @@ use Rattle.iolb_model.specs.Form.{AffineForm, form_value}
 use Rattle.iolb_model.specs.Path.{PathStep, row_path}
 use Rattle.iolb_model.specs.Program.{AffineProgram, IsWellFormed}
 use Rattle.iolb_model.specs.Bound.{IsAdmitted}
-use Rattle.iolb_model.specs.Domain.{IsAt, IsWithin}
+use Rattle.iolb_model.specs.Domain.{IsAt, IsWithin, LeadAlong}
 use Rattle.iolb_model.specs.Execution.{Instance}
 use Rattle.iolb_model.specs.Graph.{computation_graph}
 use Rattle.iolb_model.specs.Source.{written_at}
@@ -22,7 +22,7 @@ use Rattle.claims.specs.declared.place.Step.{Step}
 use Rattle.claims.specs.declared.place.Step.TheVariants.{Key}
 use Rattle.claims.proofs.Laws.{AllHold-left, AllHold-right}
 use Rattle.affine_form.specs.System.{IsMet}
-use Rattle.affine_form.specs.Rows.{step_of}
+use Rattle.affine_form.proofs.RowLemmas.{length-variables}
 use Rattle.affine_form.proofs.Meaning.{values-front}
 use Rattle.affine_program.proofs.Domains.{domain_rows-says}
 use Rattle.affine_program.specs.Domain.{path_of}
@@ -114,15 +114,15 @@ module _ (program : AffineProgram) (place : List Step) (trees : List (List Selec
           let vars : ℕ = front_variables program term in
           let path : List PathStep = path_of program spot.statement in
           let values : List ℤ = spot_values spot parameters u in
-          let within : IsWithin path parameters values =
-          subst (λ (q : List ℤ). IsWithin path q values) (values-front vars (length program.parameters) parameters u (sym admitted.each) (omega arith))
-          (domain_rows-says program spot.statement vars (parameter_point program vars) spot.point (parameters ++ u) fit.point met) in
+          let within : LeadAlong path parameters values =
+          subst (λ (q : List ℤ). LeadAlong path q values) (values-front vars (length program.parameters) parameters u (sym admitted.each) (omega arith))
+          (domain_rows-says program spot.statement vars (parameter_point program vars) spot.point (parameters ++ u) formed (length-variables vars 0 (length program.parameters)) fit.point met) in
           let there : (n : ℕ) × IsAt program parameters n (instance_of spot parameters u) =
           (domains_executed program parameters (instance_of spot parameters u) formed).1
-          (holds-there (row_path program.tree spot.statement) (λ p. IsWithin p parameters values) (way-there program spot.statement formed fit.there) within) in
+          (holds-there (row_path program.tree spot.statement) (λ p. LeadAlong p parameters values) (way-there program spot.statement formed fit.there) within) in
           executed-there program parameters there.0 (instance_of spot parameters u) there.1
 
-      module _ (u : List ℤ) (within : IsWithin (map step_of term.nest) parameters u) where
+      module _ (u : List ℤ) (within : IsWithin term.nest parameters u) where
         abbrev at : List ℤ
         at = parameters ++ u
 
@@ -206,7 +206,7 @@ module _ (program : AffineProgram) (place : List Step) (trees : List (List Selec
 
       each : AllByRecursion (IsSoundAt program term parameters) (points term.nest parameters)
       each = All-from (IsSoundAt program term parameters) (points term.nest parameters)
-          (λ u m. sound-at u (All-member (λ (w : List ℤ). IsWithin (map step_of term.nest) parameters w) (points term.nest parameters) u (points-within term.nest parameters) m))
+          (λ u m. sound-at u (All-member (λ (w : List ℤ). IsWithin term.nest parameters w) (points term.nest parameters) u (points-within term.nest parameters) m))
 
       one-word : (u w : List ℤ) → Member u (points term.nest parameters) → Member w (points term.nest parameters) → word_vertex program term parameters u ≡ word_vertex program term parameters w → u ≡ w
       one-word u w m n e =

@@ -23,7 +23,7 @@ use Rattle.claims.specs.declared.place.Step.{Step}
 use Rattle.claims.specs.declared.place.Step.TheVariants.{Key}
 use Rattle.claims.proofs.Laws.{AllHold-left, AllHold-right}
 use Rattle.affine_form.specs.Form.{variables, IsSmall, IsSmallForm}
-use Rattle.affine_form.specs.Rows.{widened, variables_from, within_rows, step_of}
+use Rattle.affine_form.specs.Rows.{widened, variables_from, within_rows}
 use Rattle.affine_form.specs.Substitution.{values_at}
 use Rattle.affine_form.specs.System.{AllOver, IsMet}
 use Rattle.affine_form.proofs.RowLemmas.{length-widened}
@@ -66,7 +66,7 @@ pub assumed-first : (program : AffineProgram) (nest : List (AffineForm × Affine
 assumed-first program nest more =
     let params : ℕ = length program.parameters in
     let vars : ℕ = params + length nest in
-    take-mapped (widened vars) program.assumptions (within_rows vars (map step_of nest) (variables_from vars 0 params) (variables_from vars params (length nest))) more
+    take-mapped (widened vars) program.assumptions (within_rows vars nest (variables_from vars 0 params) (variables_from vars params (length nest))) more
 
 pub wide-over : (vars : ℕ) (forms : List AffineForm) → AllByRecursion (λ (form : AffineForm). variables form ≤ vars) forms → AllOver vars (map (widened vars) forms)
 wide-over vars [] h = tt
@@ -211,12 +211,12 @@ module _ (program : AffineProgram) (place : List Step) (tree : SelectionTree) (t
         (Member-input_cells program parameters term.reader.statement term.reader.read values read)
         (wide-values (nest_variables program term) (cell_forms program term) (parameters ++ u) ∙ cell-is program term parameters u admitted.each)
 
-    point-in : (u : List ℤ) → IsWithin (map step_of term.nest) parameters u → ReadsInput program parameters term.reader.statement term.reader.read (instance_values term parameters u)
+    point-in : (u : List ℤ) → IsWithin term.nest parameters u → ReadsInput program parameters term.reader.statement term.reader.read (instance_values term parameters u)
         → IsInPieces program parameters (cold_pieces program tree term) (input_vertex program parameters (read_cell program parameters term.reader.statement term.reader.read (instance_values term parameters u)))
     point-in u within read =
         let values : List ℤ = instance_values term parameters u in
         tree-in program term parameters u (input_vertex program parameters (read_cell program parameters term.reader.statement term.reader.read values)) read.place (place ++ Key (codes "leaves") ∷ [])
-        (within-length (map step_of term.nest) parameters u within ∙ length-map term.nest step_of)
+        (within-length term.nest parameters u within)
         (nest-met program term.nest parameters u formed admitted within) (instance-at program term parameters u admitted.each) (cell-there u read)
         tree (omega (arith, fits.leaves)) at-leaves (true_tree parameters read.place values admitted read.executed)
 
@@ -226,7 +226,7 @@ module _ (program : AffineProgram) (place : List Step) (tree : SelectionTree) (t
         let a = Member-map_from cell_vertex vertex (all_instances term parameters) (standing-member (footprint_of program term parameters) vertex stands) in
         let b = Member-map_from (instance_values term parameters) a.0 (points term.nest parameters) a.1.0 in
         let u : List ℤ = b.0 in
-        let within : IsWithin (map step_of term.nest) parameters u = All-member (λ (x : List ℤ). IsWithin (map step_of term.nest) parameters x) (points term.nest parameters) u (points-within term.nest parameters) b.1.0 in
+        let within : IsWithin term.nest parameters u = All-member (λ (x : List ℤ). IsWithin term.nest parameters x) (points term.nest parameters) u (points-within term.nest parameters) b.1.0 in
         let read : ReadsInput program parameters term.reader.statement term.reader.read (instance_values term parameters u) =
         subst (ReadsInput program parameters term.reader.statement term.reader.read) b.1.1
         (All-member (ReadsInput program parameters term.reader.statement term.reader.read) (all_instances term parameters) a.0

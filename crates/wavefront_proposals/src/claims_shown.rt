@@ -5,7 +5,7 @@ use crate::ways::{Instance, Step, Turn};
 use affine_facts::affine::{Affine, copies, loops};
 use affine_facts::facts::{Facts, Origin, ReadFacts, TreeLeaf, with_row};
 use affine_facts::leaves::{empty_entry, with_tests};
-use affine_facts::shown::{Rows, all_forms, all_put, all_shown, equalities, followed, within};
+use affine_facts::shown::{Rows, all_forms, all_put, all_shown, equalities, followed};
 use affine_form::{Memory, Multipliers};
 use iolb_model::limits;
 use reuse_paths::{Leaf, Reach, Region, Walk};
@@ -209,7 +209,7 @@ fn region(alloc: Global, way: Way, step: &Step) -> Result<Option<Region>, Memory
     let vars = way.nest.vars.saturating_add(own.depth());
     let values = loops(alloc, way.nest.vars, own.depth())?;
     let values = values.as_slice();
-    let domain = within(alloc, facts.params, own.bounds.as_slice(), values)?;
+    let domain = own.domain(alloc, facts.params, values)?;
     let rows = region_rows(alloc, step, values)?;
     let Some(forms) = all_forms(alloc, vars, rows.as_slice())? else {
         return Ok(None);

@@ -4,7 +4,7 @@ use crate::turns::place_of_turn;
 use crate::ways::{Instance, Step, Turn, way_to};
 use affine_facts::affine::{Affine, copies};
 use affine_facts::facts::{Facts, Origin, StatementFacts, TreeLeaf};
-use affine_facts::nests::{is_empty, nest_rows, ranged, restricted};
+use affine_facts::nests::{instance_rows, is_empty, nest_rows, ranged, restricted};
 use affine_facts::numbers::short;
 use affine_facts::placed::{PlacedNest, nested, stands_in};
 use affine_facts::shown::{Rows, all_put, all_shown, followed, no_point};
@@ -101,7 +101,7 @@ fn rows_with(
     own: &StatementFacts,
     more: &[Affine],
 ) -> Result<Rows, Memory> {
-    let Rows { vars, rows } = nest_rows(alloc, facts, own.bounds.as_slice())?;
+    let Rows { vars, rows } = instance_rows(alloc, facts, own)?;
     let rows = followed(alloc, rows, more)?;
     Ok(Rows { vars, rows })
 }
@@ -146,7 +146,7 @@ fn ranged_where(
     own: &StatementFacts,
     rows: &[Affine],
 ) -> Result<Option<Vec<(Affine, Affine)>>, Memory> {
-    match restricted(alloc, facts.params, own.bounds.as_slice(), rows)? {
+    match restricted(alloc, facts.params, own.nest.as_slice(), rows)? {
         Some(bounds) => ranged(alloc, facts, bounds),
         None => Ok(None),
     }

@@ -8,7 +8,7 @@ use affine_facts::facts::Facts;
 use affine_facts::inverses::{Undoing, scaled_matrix};
 use affine_facts::nests::{counted, nest_rows};
 use affine_facts::numbers::{narrow, short};
-use affine_facts::shown::{Rows, all_forms, all_shown, followed, within};
+use affine_facts::shown::{Rows, all_forms, all_shown, followed};
 use affine_facts::words::Words;
 use affine_form::{Memory, Multipliers};
 use affine_program::Program;
@@ -47,7 +47,7 @@ fn domain_rows(
         return Ok(rows);
     };
     let point = instance.point.as_slice();
-    let domain = within(alloc, facts.params, own.bounds.as_slice(), point)?;
+    let domain = own.domain(alloc, facts.params, point)?;
     followed(alloc, rows, domain.as_slice())
 }
 

@@ -8,14 +8,21 @@ use Rattle.c_grammar.specs.Program.{narrowed, items_meant, program_of}
 use Rattle.affine_c.specs.Built.{HasShortWays, ArePlaced}
 use Rattle.affine_form.specs.System.{AffineSystem}
 use Rattle.affine_program.specs.declared.statement.Statement.{Statement}
+use Rattle.affine_c.proofs.TreeFits.{items_inside}
 use Rattle.affine_c.proofs.Made.{program_has_ways, made_from, made_says, made_program}
 use Rattle.affine_c.proofs.parts.program_of.Goals as goal
 
 assumed_are : {n : ℕ} {xs ys : List (List ℤ)} → xs ≡ ys → ◌≡◌ {A = AffineSystem} (record { vars = n; rows = map (narrowed n 0) xs }) (record { vars = n; rows = map (narrowed n 0) ys })
 assumed_are {n} e = ap (λ (rows : List (List ℤ)). record { vars = n; rows = map (narrowed n 0) rows }) e
 
-placed_there : {xs ys : List Item} {statements : List Statement} → xs ≡ ys → ArePlaced (row_of xs) statements → ArePlaced (row_of ys) statements
-placed_there {statements = statements} e h = subst (λ (items : List Item). ArePlaced (row_of items) statements) e h
+placed_there : {n : ℕ} {xs ys : List Item} {statements : List Statement} → xs ≡ ys → ArePlaced n (row_of xs) statements → ArePlaced n (row_of ys) statements
+placed_there {n} {statements = statements} e h = subst (λ (items : List Item). ArePlaced n (row_of items) statements) e h
+
+pub tree_of-requires-clause-fits : goal.tree_of-requires-clause-fits
+tree_of-requires-clause-fits c = items_inside c.args.reading.now 0 0 c.args.reading.now.items c.requires.items
+
+pub statements_of-requires-clause-fits : goal.statements_of-requires-clause-fits
+statements_of-requires-clause-fits c = items_inside c.args.reading.now 0 0 c.args.reading.now.items c.requires.items
 
 pub statements_of-requires-clause-tree : goal.statements_of-requires-clause-tree
 statements_of-requires-clause-tree c =
@@ -26,7 +33,8 @@ statements_of-requires-clause-tree c =
       few = omega (arith, many, c.requires.parameters);
       parameters_are = many;
       statements = c.requires.statements;
-      short = subst (λ (row : Row). HasShortWays row (statement_count r.items)) (sym (ap row_of c.as_slice-2.ensures.value ∙ tree)) (program_has_ways r c.requires);
+      short = subst (λ (n : ℕ). HasShortWays n (row_of c.as_slice-2.result.now) (statement_count r.items)) (sym many)
+          (subst (λ (row : Row). HasShortWays (length (parameters_of r)) row (statement_count r.items)) (sym (ap row_of c.as_slice-2.ensures.value ∙ tree)) (program_has_ways r c.requires));
     }
 
 pub from_parts-requires : goal.from_parts-requires

@@ -5,16 +5,16 @@ use Rattle.affine_program.specs.Parts.{statement_of}
 use Rattle.affine_program.specs.Tree.{row_of}
 use Rattle.affine_program.specs.declared.statement.Statement.{Statement}
 use Rattle.c_reading.specs.Tree as read
-use Rattle.c_grammar.specs.Well.{IsStatementIn, IsItemIn}
+use Rattle.c_grammar.specs.Well.{IsStatementIn}
 use Rattle.c_grammar.specs.Program.{statements_in_item}
-use Rattle.affine_c.specs.Built.{AreRowsOver, StandsIn, RunsIn}
+use Rattle.affine_c.specs.Built.{AreRowsOver, IsItemInside, StandsIn, RunsIn}
 use Rattle.affine_c.proofs.Made.{rows_there, placed_more, item_of-Assign}
 use Rattle.affine_c.proofs.statements.+placing.Goals as goal
 
 pub place_item-statement_at-requires-clause-reads : goal.place_item-statement_at-requires-clause-reads
 place_item-statement_at-requires-clause-reads t c =
     let s = c.in-Assign.statement in
-    let is : IsStatementIn c.args.reading.now c.args.depth s = subst (IsItemIn c.args.reading.now c.args.depth) (ap read.item_of c.in-Assign.is ∙ item_of-Assign s) c.requires.fits in
+    let is : IsStatementIn c.args.reading.now c.args.depth s = subst (IsItemInside c.args.reading.now c.args.depth) (ap read.item_of c.in-Assign.is ∙ item_of-Assign s) c.requires.fits in
     subst (λ (n : ℕ). AllByRecursion (AreRowsOver n c.args.depth) s.reads) (sym c.requires.tree.parameters_are) (rows_there c.args.reading.now c.args.depth s.reads is.reads)
 
 pub place_item-returns-in_ok-push-in-Assign-clause-statements : goal.place_item-returns-in_ok-push-in-Assign-clause-statements
@@ -27,6 +27,6 @@ place_item-returns-in_ok-push-in-Assign-clause-statements t c =
 pub place_item-returns-in_ok-push-in-Assign-clause-placed : goal.place_item-returns-in_ok-push-in-Assign-clause-placed
 place_item-returns-in_ok-push-in-Assign-clause-placed t c =
     let made = c.in_ok-statement_at-in-Assign.field-0 in
-    placed_more (row_of c.args.tree.now) c.args.statements.now.items c.push.new.self.items made c.requires.placed c.in_ok-push-in-Assign.ensures.items
-    (subst (λ (n : ℕ). StandsIn (row_of c.args.tree.now) (n, made)) (ap (λ (xs : List Statement). length xs) c.as_slice.ensures.value) c.in_ok-statement_at-in-Assign.ensures.bounds)
+    placed_more c.args.parameters (row_of c.args.tree.now) c.args.statements.now.items c.push.new.self.items made c.requires.placed c.in_ok-push-in-Assign.ensures.items
+    (subst (λ (n : ℕ). StandsIn c.args.parameters (row_of c.args.tree.now) (n, made)) (ap (λ (xs : List Statement). length xs) c.as_slice.ensures.value) c.in_ok-statement_at-in-Assign.ensures.way)
     (subst (λ (n : ℕ). RunsIn (row_of c.args.tree.now) (n, made)) (ap (λ (xs : List Statement). length xs) c.as_slice.ensures.value) c.in_ok-statement_at-in-Assign.ensures.directions) c.in_ok-statement_at-in-Assign.ensures.limits

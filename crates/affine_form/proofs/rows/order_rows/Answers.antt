@@ -1,8 +1,7 @@
 use Rattle.std.proofs.Common.{Bool, false, List, ℕ, ◌<◌, ◌≡◌, ◌∙◌, sym, ap, subst, arith, map, get_or, length}
 use Rattle.std.proofs.lemmas.List.{length-map, get_or-map, get_or_default}
-use Rattle.base_laws.proofs.Lists.{All-read}
 use Rattle.affine_form.specs.System.{AllOver}
-use Rattle.affine_form.specs.Rows.{direction_of, earlier_row, order_rows, IsSmallWithin}
+use Rattle.affine_form.specs.Rows.{direction_of, earlier_row, order_rows}
 use Rattle.affine_form.proofs.RowLemmas.{order_rows-over}
 use Rattle.affine_form.proofs.Steps.{order-step, order-last, order-none, pushed-one}
 use Rattle.iolb_model.specs.Program.{upward}

@@ -7,4 +7,4 @@ use Rattle.affine_program.specs.Tree.{row_of}
 use Rattle.affine_program.proofs.printable.+printable.Given as goal
 
 abbrev pub invariant-is_row_printable-loop-item : goal.invariant-is_row_printable-loop-item
-invariant-is_row_printable-loop-item l = IsPrintableRow (meaning (parts_of l.draft)) l.around (row_of (drop l.item-index l.items)) ↔ IsPrintableRow (meaning (parts_of l.draft)) l.around (row_of l.items)
+invariant-is_row_printable-loop-item l = IsPrintableRow (meaning (parts_of l.draft)) l.around l.guards (row_of (drop l.item-index l.items)) ↔ IsPrintableRow (meaning (parts_of l.draft)) l.around l.guards (row_of l.items)

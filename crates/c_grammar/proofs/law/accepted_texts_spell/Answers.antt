@@ -1,5 +1,5 @@
 use Rattle.c_tokens.specs.Text.{tokens_of}
-use Rattle.c_grammar.proofs.SoundItems.{accepted}
+use Rattle.c_grammar.proofs.SoundText.{accepted}
 use Rattle.c_grammar.proofs.Lexical.{text_lexical}
 use Rattle.c_grammar.proofs.law.accepted_texts_spell.Goals as goal
 

@@ -1,5 +1,5 @@
 use Rattle.c_tokens.specs.Text.{tokens_of}
-use Rattle.c_grammar.proofs.RunItems.{spelled}
+use Rattle.c_grammar.proofs.RunText.{spelled}
 use Rattle.c_grammar.proofs.Lexical.{text_lexical}
 use Rattle.c_grammar.proofs.law.spelled_texts_are_accepted.Goals as goal
 

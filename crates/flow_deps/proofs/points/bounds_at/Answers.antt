@@ -1,11 +1,10 @@
-use Rattle.std.proofs.Common.{◌∙◌, ◌<◌, ap, sym, refl, ◌+◌, ◌*◌, length, arith}
+use Rattle.std.proofs.Common.{◌∙◌, ◌<◌, ap, sym, refl, List, ◌+◌, ◌*◌, length, get_or, arith}
+use Rattle.iolb_model.specs.Form.{AffineForm}
 use Rattle.affine_form.specs.Rows.{IsSmallOver, BoundsFit}
 use Rattle.affine_program.specs.declared.statement.Statement.{Statement}
-use Rattle.affine_program.specs.Domain.{path_of}
-use Rattle.affine_program.specs.Parts.{meaning}
-use Rattle.affine_program.proofs.Bounds.{read-fit, path-read}
+use Rattle.affine_program.proofs.Bounds.{read-fit, bounds-read}
 use Rattle.dep_quast.proofs.Fits.{depth-read, depth-few}
-use Rattle.flow_deps.proofs.PointLaws.{bound-fits, step-is}
+use Rattle.flow_deps.proofs.PointLaws.{bound-fits, any-past}
 use Rattle.flow_deps.proofs.points.bounds_at.Goals as goal
 
 pub bounds-as_slice-level : goal.bounds-as_slice-level
@@ -44,15 +43,10 @@ returns-clause-lower c = (fits c).0
 pub returns-clause-upper : goal.returns-clause-upper
 returns-clause-upper c = (fits c).1
 
-pub returns-clause-step : goal.returns-clause-step
-returns-clause-step c =
+pub returns-clause-bounds : goal.returns-clause-bounds
+returns-clause-bounds c =
     let lent = c.as_slice.ensures.value ∙ ap (λ (s : Statement). s.bounds.items) (sym c.index-statements-from.is) in
-    let path = path-read c.args.program.now c.statements.result.now c.args.statement c.index-statements-from.result c.as_slice.result.now c.statements.ensures.kept c.statements.ensures.statements c.requires.there
+    let bounds = bounds-read c.args.program.now c.statements.result.now c.args.statement c.index-statements-from.result c.as_slice.result.now c.statements.ensures.kept c.statements.ensures.statements c.requires.there
     (simp c.from.ensures at c.index-statements-from.is) lent in
-    λ none. step-is c.as_slice.result.now (path_of (meaning c.args.program.now) c.args.statement) c.args.level c.index-as_slice-level.result none path
-    (omega (
-      arith,
-      c.requires.level_in,
-      depth-read c.args.program.now c.statements.result.now c.args.statement c.from.result (length c.as_slice.result.now) c.index-statements-from.result c.statements.ensures.kept
-          c.statements.ensures.statements c.requires.there c.from.ensures c.index-statements-from.is (ap length lent),
-    )) c.index-as_slice-level.is
+    λ none. ap (λ (loops : List (AffineForm × AffineForm)). get_or loops c.args.level none) bounds
+    ∙ any-past c.as_slice.result.now c.args.level c.index-as_slice-level.result none (omega (arith, c.requires.level_in, ap length bounds)) c.index-as_slice-level.is

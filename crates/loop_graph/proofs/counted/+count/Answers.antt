@@ -7,14 +7,14 @@ use Rattle.loop_graph.specs.declared.counted.Room.{Room}
 use mir.Syntax.{w128}
 use Rattle.std.proofs.lemmas.Int.{to_z-of_z}
 use Rattle.std.specs.List.{AllByRecursion}
-use Rattle.iolb_model.specs.Program.{next, loop, ItemFits, RowFits}
+use Rattle.iolb_model.specs.Program.{next, loop, guard, ItemFits, RowFits}
 use Rattle.affine_form.specs.Form.{IsSmall}
 use Rattle.affine_form.specs.Rows.{direction_of}
 use Rattle.loop_graph.specs.Values.{values_left}
 use Rattle.loop_graph.specs.declared.values.Values.{Values}
 use Rattle.affine_program.specs.declared.item.Item.{Item}
 use Rattle.affine_program.specs.Tree.{item_of, row_of}
-use Rattle.loop_graph.proofs.Walks.{row_seen, item_of-Loop, body_smaller, item_smaller, item_size, row_size}
+use Rattle.loop_graph.proofs.Walks.{row_seen, item_of-Guard, item_of-Loop, body_smaller, guarded_smaller, item_smaller, item_size, row_size}
 use Rattle.loop_graph.proofs.Counting.{RowLeft, LoopGoesOn, item_taken, item_too_long, nothing_taken, turn_taken, body_too_long, no_turn_left, all_taken, ItemLeft, loop_left, may_not_begin, values_small}
 use Rattle.iolb_model.specs.declared.limits.TheConstants.{VALUE_SIZE}
 use Rattle.loop_graph.proofs.counted.+count.Goals as goal
@@ -142,3 +142,13 @@ behind_item-returns-in_default t c =
     loop_left (item_of c.args.item.now) c.in-Loop.name c.in-Loop.lower c.in-Loop.upper (row_of c.in-Loop.body.items) c.args.point.now values c.args.room (Some c.loop-value.left) is low high
     (all_taken (row_of c.in-Loop.body.items) c.args.point.now (values_left values) c.loop-value.left c.args.room
     (subst (λ (vs : List ℤ). LoopGoesOn (row_of c.in-Loop.body.items) c.args.point.now (values_left values) vs c.loop-value.left c.args.room) none c.loop-value.invariant.counts))
+
+pub behind_item-behind_row-requires-in-Guard : goal.behind_item-behind_row-requires-in-Guard
+behind_item-behind_row-requires-in-Guard t c =
+    let is : item_of c.args.item.now ≡ guard c.in-Guard.rows.items (row_of c.in-Guard.body.items) = ap item_of c.in-Guard.is ∙ item_of-Guard c.in-Guard.rows c.in-Guard.body in
+    let fits : ItemFits c.requires.fits.0 (length c.args.point.now) (guard c.in-Guard.rows.items (row_of c.in-Guard.body.items)) = subst (ItemFits c.requires.fits.0 (length c.args.point.now)) is c.requires.fits.1 in
+    let body : RowFits c.requires.fits.0 (length c.args.point.now) (row_of c.deref-in-Guard.result.now) =
+    subst (λ (l : List Item). RowFits c.requires.fits.0 (length c.args.point.now) (row_of l)) (sym c.deref-in-Guard.ensures.value) fits.1 in
+    let fewer : row_size (row_of c.in-Guard.body.items) < item_size (item_of c.args.item.now) = guarded_smaller (item_of c.args.item.now) c.in-Guard.rows.items (row_of c.in-Guard.body.items) is in
+    let d : row_size (row_of c.deref-in-Guard.result.now) < t = omega (arith, c.decreases, ap (λ (l : List Item). row_size (row_of l)) c.deref-in-Guard.ensures.value) in
+    (d, ((c.requires.fits.0, body), c.requires.point))

@@ -1,9 +1,9 @@
-use Rattle.std.proofs.Common.{ℕ, ◌≡◌, refl, sym, ap, ◌∙◌, subst, ◌++◌, ◌∷◌, [], List, map, length, drop, ◌+◌, ◌<◌, to_z, of_z, rules, arith}
+use Rattle.std.proofs.Common.{ℕ, ◌≡◌, refl, sym, ap, ◌∙◌, subst, ◌++◌, ◌∷◌, [], List, true, map, length, drop, ◌+◌, ◌<◌, to_z, of_z, rules, arith}
 use Rattle.std.specs.Prelude.{ℤ, Option, MatchOption, flat_map}
 use mir.Syntax.{w128}
 use Rattle.std.proofs.lemmas.Int.{to_z-of_z}
-use Rattle.iolb_model.specs.Program.{Item as ModelItem, loop, assign, Row, ItemFits}
-use Rattle.iolb_model.specs.Form.{form_value}
+use Rattle.iolb_model.specs.Program.{Item as ModelItem, loop, guard, assign, Row, ItemFits}
+use Rattle.iolb_model.specs.Form.{AffineForm, form_value, are_met}
 use Rattle.std.specs.List.{AllByRecursion}
 use Rattle.std.proofs.lemmas.List.{append-nil}
 use Rattle.affine_form.specs.Form.{IsSmall}
@@ -14,7 +14,7 @@ use Rattle.affine_program.specs.declared.item.Item.{Item}
 use Rattle.affine_program.specs.Tree.{item_of, row_of}
 use Rattle.iolb_model.specs.Execution.{loop_values, item_runs, row_runs}
 use Rattle.loop_graph.specs.Runs.{with_point, run_of}
-use Rattle.loop_graph.proofs.Walks.{All-both, turns_at, values_hold, row_seen, row_goes_on, row_asks, body_asks, assign_done, loop_points, loop_goes_on, RowAsks, item_of-Loop, item_of-Assign, body_smaller, item_smaller, item_size, row_size}
+use Rattle.loop_graph.proofs.Walks.{All-both, turns_at, values_hold, row_seen, row_goes_on, row_asks, body_asks, assign_done, guarded_asks, guarded_smaller, loop_points, loop_goes_on, RowAsks, item_of-Guard, item_of-Loop, item_of-Assign, body_smaller, item_smaller, item_size, row_size}
 use Rattle.iolb_model.specs.declared.limits.TheConstants.{VALUE_SIZE}
 use Rattle.loop_graph.proofs.listed.+walk.Goals as goal
 
@@ -96,3 +96,14 @@ push_item-returns-in_default t c =
     subst (λ (i : ModelItem). map run_of c.loop-value.runs.items ≡ map run_of c.args.runs.now.items ++ map (with_point c.args.point.now) (item_runs i c.args.point.now)) (sym is)
     (done ∙ ap (λ (v : ℤ). map run_of c.args.runs.now.items ++ loop_points (row_of c.in-Loop.body.items) c.args.point.now (loop_values (direction_of c.in-Loop.down) v (to_z w128 (of_z w128 c.value-highest.result)))) lower
     ∙ ap (λ (v : ℤ). map run_of c.args.runs.now.items ++ loop_points (row_of c.in-Loop.body.items) c.args.point.now (loop_values (direction_of c.in-Loop.down) (form_value c.in-Loop.lower c.args.point.now) v)) upper)
+
+pub push_item-push_row-requires-then-are_met : goal.push_item-push_row-requires-then-are_met
+push_item-push_row-requires-then-are_met t c =
+    let is : item_of c.args.item.now ≡ guard c.in-Guard.rows.items (row_of c.in-Guard.body.items) = ap item_of c.in-Guard.is ∙ item_of-Guard c.in-Guard.rows c.in-Guard.body in
+    let met : are_met c.in-Guard.rows.items c.args.point.now ≡ true =
+    ap (λ (rows : List AffineForm). are_met rows c.args.point.now) (sym c.deref-in-Guard.ensures.value) ∙ sym c.are_met.ensures ∙ c.if-are_met.true in
+    let asks = guarded_asks (item_of c.args.item.now) c.in-Guard.rows.items (row_of c.in-Guard.body.items) c.args.point.now is met (c.requires.fits, c.requires.turns) in
+    let body : RowAsks (row_of c.deref-then-are_met.result.now) c.args.point.now = subst (λ (l : List Item). RowAsks (row_of l) c.args.point.now) (sym c.deref-then-are_met.ensures.value) asks in
+    let fewer : row_size (row_of c.in-Guard.body.items) < item_size (item_of c.args.item.now) = guarded_smaller (item_of c.args.item.now) c.in-Guard.rows.items (row_of c.in-Guard.body.items) is in
+    let d : row_size (row_of c.deref-then-are_met.result.now) < t = omega (arith, c.decreases, ap (λ (l : List Item). row_size (row_of l)) c.deref-then-are_met.ensures.value) in
+    (d, (body.0, (c.requires.point, body.1)))

@@ -1,6 +1,5 @@
 use Rattle.std.proofs.Common.{sym, refl, subst, List, length, map}
 use Rattle.iolb_model.specs.Form.{AffineForm}
-use Rattle.affine_form.specs.Rows.{step_of}
 use Rattle.affine_program.specs.Parts.{meaning}
 use Rattle.flow_deps.specs.declared.wanted.Wanted.TheVariants.{Short}
 use Rattle.flow_deps.specs.Answers.{Answers, HasNoShort, Question, following}
@@ -44,7 +43,7 @@ unreachable-requires-in_default-2 c =
 
 pub product_sums-requires-clause-run : goal.product_sums-requires-clause-run
 product_sums-requires-clause-run c =
-    subst (λ (bounds : List (AffineForm × AffineForm)). AllRun (meaning c.args.program.now) (length c.args.program.now.params) (map step_of bounds)) (sym c.bounds.ensures)
+    subst (λ (bounds : List (AffineForm × AffineForm)). AllRun (meaning c.args.program.now) (length c.args.program.now.params) bounds) (sym c.bounds.ensures)
     (made-runs c.args.program.now c.params-params.ensures.kept c.requires.projective c.args.read c.requires.read (outline_of c.in_ok-outline.outline) c.in_ok-outline.ensures)
 
 pub returns-clause-is : goal.returns-clause-is

@@ -1,6 +1,6 @@
 use Rattle.std.proofs.Common.{◌≡◌, ◌∙◌, sym, ap, subst, arith, ℕ, List, map, length}
 use Rattle.iolb_model.specs.Form.{AffineForm}
-use Rattle.affine_form.specs.Rows.{step_of, variables_from, within_rows, BoundsFit}
+use Rattle.affine_form.specs.Rows.{variables_from, within_rows, BoundsFit}
 use Rattle.affine_program.specs.Parts.{statement_of}
 use Rattle.std.proofs.lemmas.List.{length-map}
 use Rattle.dep_quast.specs.Context.{parameter_point}
@@ -42,8 +42,8 @@ returns-clause-rows c =
     let nest = c.args.nest.now in
     let many = ap (λ (l : List (List ℕ)). length l) c.params.ensures.params in
     c.in_ok-rows.ensures.rows
-    ∙ ap (λ (n : ℕ). within_rows n (map step_of c.bounds-bounds.result.now) c.as_slice.result.now c.as_slice-2.result.now) c.region_variables-vars.ensures.variables
-    ∙ ap (λ (b : List (AffineForm × AffineForm)). within_rows vars (map step_of b) c.as_slice.result.now c.as_slice-2.result.now) c.bounds-bounds.ensures
-    ∙ ap (λ (p : List AffineForm). within_rows vars (map step_of nest) p c.as_slice-2.result.now)
+    ∙ ap (λ (n : ℕ). within_rows n c.bounds-bounds.result.now c.as_slice.result.now c.as_slice-2.result.now) c.region_variables-vars.ensures.variables
+    ∙ ap (λ (b : List (AffineForm × AffineForm)). within_rows vars b c.as_slice.result.now c.as_slice-2.result.now) c.bounds-bounds.ensures
+    ∙ ap (λ (p : List AffineForm). within_rows vars nest p c.as_slice-2.result.now)
     (c.as_slice.ensures.value ∙ c.in_ok-params.ensures.forms ∙ ap (λ (n : ℕ). variables_from n 0 (length c.params.result.now)) c.region_variables-vars.ensures.variables ∙ ap (variables_from vars 0) many)
-    ∙ ap (within_rows vars (map step_of nest) (parameter_point walk.program vars)) (c.as_slice-2.ensures.value ∙ c.in_ok-values.ensures.values)
+    ∙ ap (within_rows vars nest (parameter_point walk.program vars)) (c.as_slice-2.ensures.value ∙ c.in_ok-values.ensures.values)

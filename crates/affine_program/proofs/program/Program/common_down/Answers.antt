@@ -2,7 +2,7 @@ use Rattle.std.proofs.Common.{◌≡◌, refl, ◌∙◌, sym, ap, subst, ℕ, z
 use Rattle.std.proofs.lemmas.List.{length-map}
 use Rattle.affine_form.specs.Rows.{direction_of}
 use Rattle.iolb_model.specs.Order.{common_loops}
-use Rattle.affine_program.specs.Parts.{ProgramParts, IsProgram, meaning}
+use Rattle.affine_program.specs.Parts.{ProgramParts, meaning}
 use Rattle.affine_program.specs.declared.statement.Statement.{Statement}
 use Rattle.affine_program.proofs.Bounds.{common-front}
 use Rattle.affine_program.proofs.program.Program.common_down.Goals as goal

@@ -1,4 +1,4 @@
-use Rattle.std.proofs.Common.{◌≡◌, position, bytes_eq, true, false, is_some, length, arith, ap, sym, ◌∙◌, subst}
+use Rattle.std.proofs.Common.{◌≡◌, position, bytes_eq, true, false, is_some, length, arith, sym, ◌∙◌, subst}
 use Rattle.c_reading.proofs.Numbered.{numbers_same, numbers_insert, from_ok, none_from_not_some}
 use Rattle.std.specs.Prelude.{Some}
 use Rattle.std.specs.BTreeMap.{UpdatesBy}
