@@ -18,7 +18,7 @@ pub struct Places {
     pub statements: Vec<StatementPlaces>,
 }
 
-/// The part of a text in which a token stands. A header knows how many brackets are open.
+/// The part of a text in which a token stands. The header of a loop, or of an `if`, knows how many brackets are open.
 #[derive(Clone, Copy)]
 enum Part {
     Outside,
@@ -81,11 +81,14 @@ impl Places {
                 Ok(Part::Statement)
             }
             _ => {
-                if word != b"for".as_slice() {
-                    return Ok(Part::Outside);
+                if word == b"for".as_slice() {
+                    self.loops.push(token.place)?;
+                    return Ok(Part::Header(0));
                 }
-                self.loops.push(token.place)?;
-                Ok(Part::Header(0))
+                if word == b"if".as_slice() {
+                    return Ok(Part::Header(0));
+                }
+                Ok(Part::Outside)
             }
         }
     }
