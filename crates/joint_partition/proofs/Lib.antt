@@ -10,3 +10,7 @@ pub mod MovedClaims
 pub mod FamiliesSound
 pub mod GroupsApart
 pub mod ClaimsCost
+pub mod Weights
+pub mod RowCounts
+pub mod SplitLists
+pub mod PartSums

@@ -4,7 +4,7 @@ use Rattle.std.specs.Prelude.{Contains, codes, drop}
 use Rattle.std.specs.List.{AllByRecursion}
 use Rattle.std.proofs.Math.IntN.{ℤ, pos}
 use lib.Signed.{◌≤ℤ◌}
-use Rattle.std.proofs.lemmas.List.{append_assoc, length-append, length-drop, length-map}
+use Rattle.std.proofs.lemmas.List.{append_assoc, length-append, length-drop}
 use Rattle.base_laws.proofs.Lists.{All-append, All-map, All-weaken, cons-same}
 use Rattle.iolb_model.specs.Form.{AffineForm, form_value}
 use Rattle.iolb_model.specs.Path.{row_path}

@@ -46,11 +46,13 @@ abbrev pub total_claim : AffineProgram → List Step → List PartTerm → ℕ �
 total_claim program place parts index =
     record { condition = 2; place = place ++ Key (codes "sums") ∷ []; statement = HasCreditsTotal (length program.parameters) (map count_of (take (suc index) parts)) } ∷ []
 
-abbrev pub inside_claims : AffineProgram → List Step → PartTerm → List Claim
-inside_claims program place part =
+abbrev pub inside_goals : AffineProgram → PartTerm → List AffineForm
+inside_goals program part =
     let vars = length program.parameters + length part.nest in
-    follow_claims 10 (place ++ Key (codes "inside") ∷ []) (rows_before program part.nest) 0
-    (domain_rows program part.statement vars (parameter_point program vars) (variables_from vars (length program.parameters) (length part.nest))) part.inside
+    domain_rows program part.statement vars (parameter_point program vars) (variables_from vars (length program.parameters) (length part.nest))
+
+abbrev pub inside_claims : AffineProgram → List Step → PartTerm → List Claim
+inside_claims program place part = follow_claims 10 (place ++ Key (codes "inside") ∷ []) (rows_before program part.nest) 0 (inside_goals program part) part.inside
 
 abbrev pub unit_claim : AffineProgram → List Step → PartTerm → ℕ → ℕ → List Claim
 unit_claim program place part row column = record {
@@ -195,13 +197,14 @@ apart_claims_of program trees place term = pointless_claims 18 (place ++ Key (co
 abbrev pub parts_claims : AffineProgram → List Step → JointTerm → List Claim
 parts_claims program place term = numbered (part_claims program place term.parts) 0 term.parts
 
--- What a joint partition term claims: part by part; that the images differ; credit by credit; the cover; family by family; and that
--- the groups are apart.
-abbrev pub joint_claims : AffineProgram → List (List SelectionTree) → List Step → JointTerm → List Claim
-joint_claims program trees place term =
+-- What is claimed of the points: part by part; that the images differ; credit by credit; and the cover.
+abbrev pub points_claims : AffineProgram → List Step → JointTerm → List Claim
+points_claims program place term =
     parts_claims program place term
     ++ distinct_claims program place 0 term.parts term.distinct
     ++ numbered (credit_claims program place term.credits) 0 term.credits
     ++ cover_claims place term
-    ++ families_claims program trees place term
-    ++ apart_claims_of program trees place term
+
+-- What a joint partition term claims: of its points; family by family; and that the groups are apart.
+abbrev pub joint_claims : AffineProgram → List (List SelectionTree) → List Step → JointTerm → List Claim
+joint_claims program trees place term = points_claims program place term ++ families_claims program trees place term ++ apart_claims_of program trees place term

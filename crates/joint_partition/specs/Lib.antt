@@ -5,3 +5,5 @@ pub mod JointLoads
 pub mod Claims
 pub mod JointFits
 pub mod JointCosts
+pub mod SplitFits
+pub mod View

@@ -111,7 +111,7 @@ module _ (program : AffineProgram) (place : List Step) (credits : List CreditTer
       subst (λ (cs : List CreditTerm). IsCreditsTotal (length program.parameters) no_points cs sum) (sym taken)
       (total-with (length program.parameters) no_points (take i credits) credit total sum before next)
 
-  has-next : HasCreditsTotal (length program.parameters) (take (suc i) credits) → HasWithCredit (length program.parameters) total credit
+  pub has-next : HasCreditsTotal (length program.parameters) (take (suc i) credits) → HasWithCredit (length program.parameters) total credit
   has-next s =
       let parts = total-parts (length program.parameters) no_points (take i credits) credit s.0 (subst (λ (cs : List CreditTerm). IsCreditsTotal (length program.parameters) no_points cs s.0) taken s.1) in (
         s.0,

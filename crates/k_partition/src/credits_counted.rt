@@ -20,7 +20,7 @@ use reuse_paths::Credit;
 use std::alloc::Global;
 
 /// The sum of the counts of the credits' points.
-pub(crate) fn credits_counted(
+pub fn credits_counted(
     alloc: Global,
     program: &Program,
     credits: &[Credit],
@@ -59,7 +59,7 @@ fn with_credit(
 }
 
 /// The sum of two polynomials, at `sums` behind this place.
-fn added(alloc: Global, before: &Poly, count: &Poly, place: &Place) -> Result<Poly, Refused>
+pub fn added(alloc: Global, before: &Poly, count: &Poly, place: &Place) -> Result<Poly, Refused>
     ensures sum { IfOk result (λ sum. IsAdded before.now count.now sum) }
     ensures refused { IfErr result (λ refused. IsRefusal (record { condition = 2; place = place.now ++ Key (codes "sums") ∷ []; statement = size before.now * size count.now < SUM_MEASURE } ∷ []) refused) }
 {
@@ -81,7 +81,7 @@ fn added(alloc: Global, before: &Poly, count: &Poly, place: &Place) -> Result<Po
 }
 
 /// The polynomial 0.
-fn zero(alloc: Global) -> Result<Poly, Memory>
+pub fn zero(alloc: Global) -> Result<Poly, Memory>
     ensures { IfOk result (λ poly. poly ≡ no_points) }
 {
     let form = Form::new(Vec::new(alloc), 0);

@@ -4,7 +4,7 @@
 
 mod bound;
 mod cover_shown;
-mod credits_counted;
+pub mod credits_counted;
 mod families_checked;
 mod inside_shown;
 mod partition_checker;

@@ -1,0 +1,6 @@
+use Rattle.std.proofs.Common.{◌≡◌, ◌+◌, drop, sum_by}
+use Rattle.joint_partition.proofs.Weights.{weight_in}
+use Rattle.joint_partition.proofs.cover_shown.weight_at.Given as goal
+
+abbrev pub invariant-loop-family : goal.invariant-loop-family
+invariant-loop-family l = (l.sum + sum_by (weight_in l.coordinate) (drop l.family-index l.families)) ≡ sum_by (weight_in l.coordinate) l.families
