@@ -10,6 +10,7 @@ use Rattle.std.proofs.lemmas.List.FromFn.{length-range_with_len, get_or-map-rang
 use Rattle.std.proofs.lemmas.Grind.{flat_map-append}
 use Rattle.std.proofs.lemmas.Slice.Eq.{bytes_eq-Decides}
 use Rattle.base_laws.proofs.Lists.{All-weaken}
+use Rattle.base_laws.proofs.Ranges.{range-more}
 use Rattle.iolb_model.specs.Order.{row_common}
 use Rattle.iolb_model.specs.Path.{PathStep, bounded, row_path}
 use Rattle.iolb_model.specs.Program.{upward, Array, Statement as ModelStatement, AffineProgram, IsWellFormed, AccessFits, StatementFits, RowFits, row_statements, no_statement, statement_at}
@@ -323,12 +324,6 @@ products-are-programs n parts few are =
     }
 
 -- ---- one product more
-
-range-more : (a n : ℕ) → range_with_len a (n + 1) ≡ range_with_len a n ++ (a + n) ∷ []
-range-more a zero = ap (λ (k : ℕ). k ∷ []) (omega arith)
-range-more a (suc n) =
-    let count : suc n + 1 ≡ suc (n + 1) = omega arith in
-    ap (range_with_len a) count ∙ ap (λ (rest : List ℕ). a ∷ rest) (range-more (a + 1) n ∙ ap (λ (k : ℕ). range_with_len (a + 1) n ++ k ∷ []) (omega arith))
 
 pub one-more : {X Y : Type 0} (f : X → Y) (g : ℕ → Y) (n : ℕ) (xs : List X) (x : X) → map f xs ≡ map g (range_with_len 0 n) → f x ≡ g n
     → map f (xs ++ x ∷ []) ≡ map g (range_with_len 0 (n + 1))

@@ -280,14 +280,20 @@ pub fn nest_rows(
     })
 }
 
-/// The rows of a statement's instances: the assumptions and its domain.
-pub fn instance_rows(alloc: Global, facts: &Facts, own: &StatementFacts) -> Result<Rows, Memory> {
+/// The rows of a statement's instances: the assumptions, its domain, and more.
+pub fn instance_rows(
+    alloc: Global,
+    facts: &Facts,
+    own: &StatementFacts,
+    more: &[Affine],
+) -> Result<Rows, Memory> {
     let values = loops(alloc, facts.params, own.depth())?;
     let domain = own.domain(alloc, facts.params, values.as_slice())?;
     let rows = copies(alloc, facts.assumed.as_slice())?;
+    let rows = followed(alloc, rows, domain.as_slice())?;
     Ok(Rows {
         vars: facts.params.saturating_add(own.depth()),
-        rows: followed(alloc, rows, domain.as_slice())?,
+        rows: followed(alloc, rows, more)?,
     })
 }
 

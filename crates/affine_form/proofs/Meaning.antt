@@ -6,7 +6,7 @@ use Rattle.std.proofs.Math.IntN.{ℤ, pos, negsuc, ◌+ℤ◌, ◌-ℤ◌, ◌*�
 use lib.Signed.{◌≤ℤ◌}
 use Rattle.std.proofs.lemmas.Int.{ints}
 use Rattle.std.proofs.lemmas.List.{get_or_at, length-append, append-nil, append_assoc, map-append}
-use Rattle.base_laws.proofs.Forms.{form_value-front}
+use Rattle.iolb_model.proofs.Forms.{form_value-front}
 use Rattle.base_laws.proofs.Ring.{zero-mul, one-mul, sub-mul}
 use Rattle.iolb_model.specs.Form.{AffineForm, dot, form_value}
 use Rattle.iolb_model.specs.Program.{Direction, upward, downward, IsOver}

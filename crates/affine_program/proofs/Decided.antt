@@ -2,20 +2,13 @@
 use Rattle.std.proofs.Common.{◌≡◌, sym, ◌∙◌, ap, subst, ℕ, zero, suc, ◌+◌, ◌<◌, List, [], ◌∷◌, ◌++◌, length, take, get_or, arith}
 use Rattle.std.specs.List.{AllByRecursion, range_with_len, enumerate_from}
 use Rattle.std.proofs.lemmas.List.{take_more}
+use Rattle.base_laws.proofs.Ranges.{range-push}
 use Rattle.affine_program.proofs.Bounds.{All-placed}
-
-range-more : (a n : ℕ) → range_with_len a (suc n) ≡ range_with_len a n ++ (a + n) ∷ []
-range-more a zero = ap (λ (k : ℕ). k ∷ []) none where
-  none : a ≡ a + 0
-  none = omega arith
-range-more a (suc n) = ap (λ (xs : List ℕ). a ∷ xs) (range-more (a + 1) n) ∙ ap (λ (k : ℕ). a ∷ range_with_len (a + 1) n ++ k ∷ []) moved where
-  moved : a + 1 + n ≡ a + suc n
-  moved = omega arith
 
 -- one number more that counts on
 pub counted-more : (xs : List ℕ) (i : ℕ) → i < length xs → get_or xs i 0 ≡ i → take i xs ≡ range_with_len 0 i → take (i + 1) xs ≡ range_with_len 0 (i + 1)
 counted-more xs i below e h =
-    take_more xs i 0 below ∙ ap (λ (ys : List ℕ). ys ++ get_or xs i 0 ∷ []) h ∙ ap (λ (k : ℕ). range_with_len 0 i ++ k ∷ []) (e ∙ none) ∙ sym (range-more 0 i)
+    take_more xs i 0 below ∙ ap (λ (ys : List ℕ). ys ++ get_or xs i 0 ∷ []) h ∙ ap (λ (k : ℕ). range_with_len 0 i ++ k ∷ []) (e ∙ none) ∙ range-push 0 i
     ∙ ap (λ (k : ℕ). range_with_len 0 k) next where
       none : i ≡ 0 + i
       none = omega arith

@@ -5,7 +5,7 @@ use Rattle.std.proofs.lemmas.List.{length-append, length-map, append_assoc, map-
 use Rattle.std.proofs.Math.Seq.{take-append_seam, drop-append_seam}
 use Rattle.std.specs.List.{AllByRecursion}
 use lib.Signed.{◌≤ℤ◌}
-use Rattle.base_laws.proofs.Forms.{met-onward, met-back}
+use Rattle.iolb_model.proofs.Forms.{met-onward, met-back}
 use Rattle.base_laws.proofs.Lists.{All-append, All-left, All-right}
 use Rattle.iolb_model.specs.Form.{AffineForm, form_value, AreMet}
 use Rattle.iolb_model.specs.Path.{PathStep, bounded, guarded, bounds_on, guards_on}

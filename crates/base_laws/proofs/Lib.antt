@@ -1,4 +1,3 @@
 pub mod Ring
 pub mod Lists
 pub mod Ranges
-pub mod Forms

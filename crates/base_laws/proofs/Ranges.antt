@@ -17,6 +17,11 @@ pub range-push : (first n : ℕ) → range_with_len first n ++ (first + n) ∷ [
 range-push first zero = ap (λ (k : ℕ). k ∷ []) (omega arith)
 range-push first (suc n) = ap (λ (l : List ℕ). first ∷ l) (ap (λ (k : ℕ). range_with_len (first + 1) n ++ k ∷ []) (omega arith) ∙ range-push (first + 1) n)
 
+pub range-more : (first n : ℕ) → range_with_len first (n + 1) ≡ range_with_len first n ++ (first + n) ∷ []
+range-more first n = ap (range_with_len first) next ∙ sym (range-push first n) where
+  next : n + 1 ≡ suc n
+  next = omega arith
+
 -- each is another
 others-differ : (a first n : ℕ) → a < first → AllByRecursion (λ (y : ℕ). nat_eq a y ≡ false) (range_with_len first n)
 others-differ a first zero below = tt

@@ -1,2 +1,2 @@
-//! Laws of whole numbers, of either sign and without a bound, of lists and of forms, that several crates cite.
+//! Laws of whole numbers, of either sign and without a bound, and of lists that several crates cite.
 #![tactic(auto)]

@@ -12,7 +12,8 @@ use Rattle.reuse_paths.specs.LeafClaims.{LeafClaim, no_point, stops, is_credited
 use Rattle.reuse_paths.specs.Walks.{WalkTree, take, test as walk_test, entry_count, WalkRegion, SpotForms, ReachClaim, same, walked}
 use Rattle.reuse_paths.specs.declared.leaf.Leaf.{Leaf}
 use Rattle.reuse_paths.specs.Families.{NodeForms, FamilyForms}
-use Rattle.iolb_model.specs.declared.limits.TheConstants.{NUMBER_SIZE, COEFFICIENT_SIZE, MEASURE, ROWS, VARIABLES, TREE_TESTS, TREE_LEAVES, REGION_ROWS, SCALE, WEIGHT}
+use Rattle.reuse_paths.specs.declared.family.Credit.{Credit}
+use Rattle.iolb_model.specs.declared.limits.TheConstants.{NUMBER_SIZE, COEFFICIENT_SIZE, MEASURE, ROWS, VARIABLES, TREE_TESTS, TREE_LEAVES, REGION_ROWS, SCALE, WEIGHT, NEST_VARIABLES}
 
 -- ---- parts
 
@@ -131,3 +132,10 @@ pub record IsSmallFamily (family : FamilyForms) : Type 0 where
   pub start : IsSmallWalk family.start
   pub nodes : AllByRecursion IsSmallFamilyNode family.nodes
   pub inputs : AllByRecursion IsSmallLabel family.inputs
+
+-- a credited nest: at most 6 variables
+pub record IsSmallCredit (credit : Credit) : Type 0 where
+  pub variables : length credit.nest ≤ NEST_VARIABLES
+  pub bounds : AreSmallBounds credit.nest
+  pub shown : NameRows credit.sums.shown
+  pub sums : AllByRecursion IsSmallPolynomial credit.sums.sums

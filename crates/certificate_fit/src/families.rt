@@ -7,7 +7,7 @@ ghost use Rattle.affine_program.specs.Parts.{meaning};
 ghost use Rattle.claims.specs.Claims.{numbered, Decides};
 ghost use Rattle.claims.specs.declared.place.Step.TheVariants.{Key};
 ghost use Rattle.certificate_fit.specs.FamilyFit.{RisesBelow, families_fit, family_fit, input_fit, inputs_fit, label_fit, node_fit, node_fit_at, nodes_fit, set_fit, start_fit, subscripts_of};
-ghost use Rattle.reuse_paths.specs.Families.{boxed_node, credit_of, family_of, forms_of, node_of};
+ghost use Rattle.reuse_paths.specs.Families.{boxed_node, credit_of, family_of, boxed_forms, node_of};
 ghost use Rattle.reuse_paths.specs.FamilyClaims.{family_setting};
 ghost use Rattle.dep_quast.specs.Quasts.{trees_of};
 ghost use Rattle.reuse_paths.specs.WalkViews.{walk_of};
@@ -19,7 +19,7 @@ use affine_form::Form;
 use affine_program::Program;
 use claims::{ObjectKey, Place, Refused, Step};
 use domain_count::Nest;
-use reuse_paths::{Aim, Credit, Family, FamilyNode, Kept, Quasts, Walking};
+use reuse_paths::{Aim, Credit, Family, FamilyNode, Kept, Nodes, Quasts, Walking};
 use std::alloc::Global;
 
 // ---- labels
@@ -66,9 +66,9 @@ fn input_fits(
     list: &Place,
     size: usize,
     array: usize,
-    label: &Option<Vec<Form>>,
+    label: &Option<Box<Vec<Form>>>,
 ) -> Result<(), Refused>
-    ensures { Decides (input_fit (meaning program.now) size list.now array (option_map forms_of label.now)) result }
+    ensures { Decides (input_fit (meaning program.now) size list.now array (option_map boxed_forms label.now)) result }
 {
     let Some(label) = label else {
         return Ok(());
@@ -84,9 +84,9 @@ fn all_labels_fit(
     program: &Program,
     list: &Place,
     size: usize,
-    labels: &[Option<Vec<Form>>],
+    labels: &[Option<Box<Vec<Form>>>],
 ) -> Result<(), Refused>
-    ensures { Decides (numbered (input_fit (meaning program.now) size list.now) 0 (map (option_map forms_of) labels.now)) result }
+    ensures { Decides (numbered (input_fit (meaning program.now) size list.now) 0 (map (option_map boxed_forms) labels.now)) result }
 {
     for (array, label) in labels.iter().enumerate() {
         input_fits(alloc, program, list, size, array, label)?;
@@ -131,7 +131,8 @@ fn walking_from<'a>(
         quasts,
         nest: none,
         aim: Aim::Keep(Kept {
-            family,
+            nodes: Nodes::Together(family.nodes.as_slice()),
+            inputs: family.inputs.as_slice(),
             credits,
             reader,
         }),

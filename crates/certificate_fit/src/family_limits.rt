@@ -2,15 +2,15 @@
 
 ghost use Rattle.std.specs.Prelude.{◌≡◌, ◌≤◌, ◌↔◌, IsTrue, map, option_map};
 ghost use Rattle.std.specs.List.{AllByRecursion};
-ghost use Rattle.certificate_fit.specs.Limits.{AreSmall, IsSmallFamily, IsSmallFamilyNode, IsSmallLabel, IsSmallWalk};
+ghost use Rattle.certificate_fit.specs.Limits.{AreSmall, IsSmallCredit, IsSmallFamily, IsSmallFamilyNode, IsSmallLabel, IsSmallWalk};
 ghost use Rattle.iolb_model.specs.declared.limits.TheConstants.{SCALE, WEIGHT};
-ghost use Rattle.reuse_paths.specs.Families.{boxed_node, family_of, forms_of};
+ghost use Rattle.reuse_paths.specs.Families.{boxed_node, family_of, boxed_forms};
 
-use crate::part_limits::are_small;
+use crate::part_limits::{are_small, nest_is_small};
 use crate::walk_limits::{is_small_node, is_small_walk};
 use affine_form::Form;
 use iolb_model::limits;
-use reuse_paths::{Family, FamilyNode};
+use reuse_paths::{Credit, Family, FamilyNode};
 
 /// Whether what a family says of a statement, if it says something, is within its limits.
 fn is_small_family_node(node: &Option<Box<FamilyNode>>) -> bool
@@ -35,8 +35,8 @@ fn are_small_family_nodes(nodes: &[Option<Box<FamilyNode>>]) -> bool
 }
 
 /// Whether the numbers of the label of an array's cells, if they have one, are of size below 2^20.
-fn is_small_label(label: &Option<Vec<Form>>) -> bool
-    ensures { IsTrue result ↔ IsSmallLabel (option_map forms_of label.now) }
+fn is_small_label(label: &Option<Box<Vec<Form>>>) -> bool
+    ensures { IsTrue result ↔ IsSmallLabel (option_map boxed_forms label.now) }
 {
     match label {
         Some(label) => are_small(label.as_slice()),
@@ -45,8 +45,8 @@ fn is_small_label(label: &Option<Vec<Form>>) -> bool
 }
 
 /// Whether the numbers of the labels of the arrays' cells are of size below 2^20.
-fn are_small_labels(labels: &[Option<Vec<Form>>]) -> bool
-    ensures { IsTrue result ↔ AllByRecursion IsSmallLabel (map (option_map forms_of) labels.now) }
+pub fn are_small_labels(labels: &[Option<Box<Vec<Form>>>]) -> bool
+    ensures { IsTrue result ↔ AllByRecursion IsSmallLabel (map (option_map boxed_forms) labels.now) }
 {
     for label in labels {
         if !is_small_label(label) {
@@ -91,6 +91,18 @@ pub fn are_small_families(families: &[Family]) -> bool
 {
     for family in families {
         if !is_small_family(family) {
+            return false;
+        }
+    }
+    true
+}
+
+/// Whether credited nests are within their limits.
+pub fn are_small_credits(credits: &[Credit]) -> bool
+    ensures { IsTrue result ↔ AllByRecursion IsSmallCredit credits.now }
+{
+    for credit in credits {
+        if !nest_is_small(&credit.nest, &credit.sums) {
             return false;
         }
     }

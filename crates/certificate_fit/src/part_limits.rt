@@ -1,12 +1,13 @@
 //! Whether forms, multipliers and polynomials are within their limits.
 
-ghost use Rattle.std.specs.Prelude.{◌≡◌, ◌<◌, ◌↔◌, IsTrue};
+ghost use Rattle.std.specs.Prelude.{◌≡◌, ◌<◌, ◌≤◌, ◌↔◌, IsTrue, length};
 ghost use Rattle.std.specs.List.{AllByRecursion};
 ghost use Rattle.certificate_fit.specs.Limits.{AreSmall, AreSmallBounds, NamesRows, NameRows, IsSmallPolynomial};
-ghost use Rattle.iolb_model.specs.declared.limits.TheConstants.{ROWS};
+ghost use Rattle.iolb_model.specs.declared.limits.TheConstants.{NEST_VARIABLES, ROWS};
 
 use affine_form::{Form, Multipliers};
 use affine_program::is_small_form;
+use domain_count::{Nest, Sums};
 use iolb_model::limits;
 use poly_tree::Poly;
 
@@ -85,4 +86,15 @@ pub fn bounds_are_small(bounds: &[(Form, Form)]) -> bool
         }
     }
     true
+}
+
+/// Whether a nest is within its limits, and what is claimed of its number of points.
+pub fn nest_is_small(nest: &Nest, sums: &Sums) -> bool
+    ensures { IsTrue result ↔ ((length nest.now ≤ NEST_VARIABLES) × AreSmallBounds nest.now
+        × NameRows sums.now.shown × AllByRecursion IsSmallPolynomial sums.now.sums) }
+{
+    nest.bounds().len() <= limits::NEST_VARIABLES
+        && bounds_are_small(nest.bounds())
+        && name_rows(sums.shown())
+        && are_small_polynomials(sums.sums())
 }

@@ -4,7 +4,7 @@ ghost use Rattle.std.specs.Prelude.{◌↔◌, IsTrue, map, option_map};
 ghost use Rattle.std.specs.List.{AllByRecursion};
 ghost use Rattle.certificate_fit.specs.Limits.{IsNestedWalk, IsSmallEntry, IsSmallNode, IsSmallReach, IsSmallRegion, IsSmallSpot, IsSmallWalk, IsSmallWay};
 ghost use Rattle.reuse_paths.specs.LeafClaims.{claim_of};
-ghost use Rattle.reuse_paths.specs.Walks.{reach_of, region_of, spot_of, tree_of_walk};
+ghost use Rattle.reuse_paths.specs.Walks.{reach_of, boxed_region, region_of, spot_of, tree_of_walk};
 
 use crate::part_limits::{are_small, name_rows, names_rows};
 use affine_program::is_small_form;
@@ -50,7 +50,7 @@ fn is_nested(walk: &Walk, left: u8) -> bool
 }
 
 /// Whether a walk is within its limits.
-pub(crate) fn is_small_walk(walk: &Walk) -> bool
+pub fn is_small_walk(walk: &Walk) -> bool
     ensures { IsTrue result ↔ IsSmallWalk (tree_of_walk walk.now) }
 {
     is_nested(walk, limits::TREE_TESTS) && entry_count(walk) <= usize::from(limits::TREE_LEAVES)
@@ -66,8 +66,8 @@ fn is_small_region(region: &Region) -> bool
 }
 
 /// Whether the region of a statement, if it has one, is within its limits.
-pub(crate) fn is_small_node(node: &Option<Region>) -> bool
-    ensures { IsTrue result ↔ IsSmallNode (option_map region_of node.now) }
+pub(crate) fn is_small_node(node: &Option<Box<Region>>) -> bool
+    ensures { IsTrue result ↔ IsSmallNode (option_map boxed_region node.now) }
 {
     match node {
         Some(region) => is_small_region(region),
@@ -76,8 +76,8 @@ pub(crate) fn is_small_node(node: &Option<Region>) -> bool
 }
 
 /// Whether the regions of statements are within their limits.
-fn are_small_nodes(nodes: &[Option<Region>]) -> bool
-    ensures { IsTrue result ↔ AllByRecursion IsSmallNode (map (option_map region_of) nodes.now) }
+pub fn are_small_nodes(nodes: &[Option<Box<Region>>]) -> bool
+    ensures { IsTrue result ↔ AllByRecursion IsSmallNode (map (option_map boxed_region) nodes.now) }
 {
     for node in nodes {
         if !is_small_node(node) {

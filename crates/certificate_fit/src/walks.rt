@@ -14,7 +14,7 @@ ghost use Rattle.dep_quast.specs.Quasts.{trees_of};
 ghost use Rattle.reuse_paths.specs.ReachClaims.{setting_of};
 ghost use Rattle.reuse_paths.specs.WalkSettings.{region_at, region_variables as variables_of};
 ghost use Rattle.reuse_paths.specs.WalkViews.{walk_of};
-ghost use Rattle.reuse_paths.specs.Walks.{reach_of, region_of, spot_of, tree_of_walk};
+ghost use Rattle.reuse_paths.specs.Walks.{reach_of, boxed_region, spot_of, tree_of_walk};
 
 use crate::counts::{is_twice, loops_around, read_count};
 use crate::entries::{Aimed, all_aimed_entries_fit};
@@ -184,9 +184,9 @@ pub(crate) fn region_fits(
     walking: &Walking,
     statement: u16,
     place: &Place,
-    region: &Option<Region>,
+    region: &Option<Box<Region>>,
 ) -> Result<(), Refused>
-    ensures { Decides (region_fit_at (walk_of walking.now) statement place.now (option_map region_of region.now)) result }
+    ensures { Decides (region_fit_at (walk_of walking.now) statement place.now (option_map boxed_region region.now)) result }
 {
     let Some(region) = region else {
         return Ok(());
@@ -204,10 +204,10 @@ fn all_regions_fit(
     alloc: Global,
     walking: &Walking,
     list: &Place,
-    nodes: &[Option<Region>],
+    nodes: &[Option<Box<Region>>],
 ) -> Result<(), Refused>
     requires { length nodes.now ≡ length walking.now.program.now.statements }
-    ensures { Decides (numbered (region_fit (walk_of walking.now) list.now) 0 (map (option_map region_of) nodes.now)) result }
+    ensures { Decides (numbered (region_fit (walk_of walking.now) list.now) 0 (map (option_map boxed_region) nodes.now)) result }
 {
     let _params = walking.program.params();
     for (statement, region) in nodes.iter().enumerate() {
@@ -224,10 +224,10 @@ fn walked_fits(
     from: &Spot,
     place: &Place,
     start: &[Multipliers],
-    nodes: &[Option<Region>],
+    nodes: &[Option<Box<Region>>],
 ) -> Result<(), Refused>
-    requires { (walk_of walking.now).nodes ≡ map (option_map region_of) nodes.now }
-    ensures { Decides (walked_fit (walk_of walking.now) (spot_of from.now) place.now start.now (map (option_map region_of) nodes.now)) result }
+    requires { (walk_of walking.now).nodes ≡ map (option_map boxed_region) nodes.now }
+    ensures { Decides (walked_fit (walk_of walking.now) (spot_of from.now) place.now start.now (map (option_map boxed_region) nodes.now)) result }
 {
     if nodes.len() != walking.program.statements().len() {
         return Err(misfit(alloc, place, Step::Key(ObjectKey("nodes"))));

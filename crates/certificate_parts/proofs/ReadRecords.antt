@@ -8,7 +8,7 @@ use Rattle.iolb_model.specs.declared.limits.TheConstants.{FAMILIES, WEIGHTS}
 use Rattle.certificate_fit.specs.Limits.{AreSmall, IsSmallFamily, IsSmallLabel, IsSmallFamilyNode}
 use Rattle.reuse_paths.specs.declared.family.Family.{Family}
 use Rattle.reuse_paths.specs.declared.family.FamilyNode.{FamilyNode}
-use Rattle.reuse_paths.specs.Families.{FamilyForms, forms_of, boxed_node, family_of}
+use Rattle.reuse_paths.specs.Families.{FamilyForms, boxed_forms, boxed_node, family_of}
 use Rattle.json_parts.specs.Fields.{object_shape}
 use Rattle.json_parts.specs.Shape.{IsReadBack}
 use Rattle.json_parts.proofs.Back.{few_read}
@@ -34,8 +34,8 @@ families_read families small h =
 
 -- ---- what is within the limits, as it is written
 
-pub labels_fit : (labels : List (Option (Vec AffineForm Global))) → AllByRecursion IsSmallLabel (map (option_map forms_of) labels)
-    → AllByRecursion (λ one. IfSome one (λ (label : Vec AffineForm Global). AreSmall label.items × (true ≡ true))) labels
+pub labels_fit : (labels : List (Option (Box (Vec AffineForm Global) Global))) → AllByRecursion IsSmallLabel (map (option_map boxed_forms) labels)
+    → AllByRecursion (λ one. IfSome one (λ (label : Box (Vec AffineForm Global) Global). AreSmall (boxed_forms label) × (true ≡ true))) labels
 labels_fit [] h = tt
 labels_fit (None ∷ labels) h = (tt, labels_fit labels h.1)
 labels_fit (Some label ∷ labels) h = ((h.0, refl), labels_fit labels h.1)

@@ -4,7 +4,7 @@ ghost use Rattle.std.specs.Prelude.{◌≡◌, suc, List, [], map, min, IfOk};
 ghost use Rattle.serde_json.specs.View.{view};
 ghost use Rattle.iolb_model.specs.Form.{AffineForm};
 ghost use Rattle.certificate_fit.specs.Limits.{AreSmall, IsSmallWalk, IsSmallFamily};
-ghost use Rattle.reuse_paths.specs.Families.{NodeForms, FamilyForms, boxed_node, family_of};
+ghost use Rattle.reuse_paths.specs.Families.{NodeForms, FamilyForms, family_of, node_of};
 ghost use Rattle.reuse_paths.specs.Walks.{WalkTree, tree_of_walk};
 ghost use Rattle.json_parts.specs.Fields.{field};
 ghost use Rattle.json_parts.specs.Names.{first_of, more_of, one-more-name};
@@ -19,8 +19,8 @@ use affine_form::{Form, Memory};
 use cover_lp::CoordSet;
 use iolb_model::limits;
 use json_parts::{
-    Any8, CertError, End, Few, ListOf, Number8, Number32, OrNull, Part, Puts, fault, put_list,
-    put_part, read_object, write_list, write_object,
+    Any8, Boxed, CertError, End, Few, ListOf, Number8, Number32, OrNull, Part, Puts, fault,
+    put_list, put_part, read_object, write_list, write_object,
 };
 use json_values::Json;
 use reuse_paths::{Family, FamilyNode, Walk};
@@ -33,29 +33,29 @@ type Label = ListOf<OfForm>;
 struct OfNode {}
 
 impl Part for OfNode {
-    type Value = Box<FamilyNode>;
+    type Value = FamilyNode;
 
     ghost Said = { NodeForms };
 
     ghost shape = { node_shape };
 
-    ghost link = { plain_link boxed_node };
+    ghost link = { plain_link node_of };
 
-    ghost Fits = { λ node. IsSmallForms (boxed_node node) };
+    ghost Fits = { λ node. IsSmallForms (node_of node) };
 
     #[tactic(auto, unfolding(crate::specs::Families::node_shape))]
-    fn read(alloc: Global, value: &Json) -> Result<Box<FamilyNode>, CertError> {
-        let (label, (region, ())) = read_object::<(Label, (OrNull<OfRegion>, End))>(
+    fn read(alloc: Global, value: &Json) -> Result<FamilyNode, CertError> {
+        let (label, (region, ())) = read_object::<(Label, (OrNull<Boxed<OfRegion>>, End))>(
             alloc,
             value,
             &["label", "region"],
         )?;
-        Ok(Box::new(alloc, FamilyNode { label, region })?)
+        Ok(FamilyNode { label, region })
     }
 
     #[tactic(auto, using(crate::proofs::ReadReaches::node_fits), unfolding(crate::specs::Families::node_shape))]
-    fn write(alloc: Global, part: &Box<FamilyNode>) -> Result<Value, Memory> {
-        let rest = put_part::<OrNull<OfRegion>, _>(&part.region, End {});
+    fn write(alloc: Global, part: &FamilyNode) -> Result<Value, Memory> {
+        let rest = put_part::<OrNull<Boxed<OfRegion>>, _>(&part.region, End {});
         let all = put_part::<Label, _>(&part.label, rest);
         let value = write_object(alloc, &["label", "region"], &all)?;
         Ok(value)
@@ -140,9 +140,9 @@ impl<'a, R: Puts> Puts for PutStart<'a, R> {
 struct OfFamily {}
 
 type Members = (
-    ListOf<OrNull<Label>>,
+    ListOf<OrNull<Boxed<Label>>>,
     (
-        ListOf<OrNull<OfNode>>,
+        ListOf<OrNull<Boxed<OfNode>>>,
         (Scale, (ListOf<Any8>, (OfStart, (Weight, End)))),
     ),
 );
@@ -190,8 +190,8 @@ impl Part for OfFamily {
         };
         let rest = put_list::<Any8, _>(part.set.coords(), rest);
         let rest = put_part::<Scale, _>(&part.scale, rest);
-        let rest = put_part::<ListOf<OrNull<OfNode>>, _>(&part.nodes, rest);
-        let all = put_part::<ListOf<OrNull<Label>>, _>(&part.inputs, rest);
+        let rest = put_part::<ListOf<OrNull<Boxed<OfNode>>>, _>(&part.nodes, rest);
+        let all = put_part::<ListOf<OrNull<Boxed<Label>>>, _>(&part.inputs, rest);
         let value = write_object(alloc, &names, &all)?;
         Ok(value)
     }

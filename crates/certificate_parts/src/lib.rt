@@ -17,7 +17,7 @@ mod inverses;
 mod leaves;
 mod matrices;
 mod multipliers;
-mod nested;
+pub mod nested;
 mod nests;
 mod numbers;
 mod polynomials;

@@ -38,7 +38,7 @@ pub trait Branches: Drop {
 }
 
 /// A tree in which so many tests may be nested.
-pub(crate) fn nested<T: Branches>(alloc: Global, value: &Json, left: u8) -> Result<T, CertError>
+pub fn nested<T: Branches>(alloc: Global, value: &Json, left: u8) -> Result<T, CertError>
     ensures { Gives T.tree result (reads_nested T.branching left (json_data value.now)) }
 {
     if !has_keys(value, &["form", "no", "yes"]) {
@@ -73,7 +73,7 @@ fn test_object(alloc: Global, form: Value, no: Value, yes: Value) -> Result<Valu
 }
 
 /// A test of a form, by the values of its trees.
-pub(crate) fn write_test(alloc: Global, form: &Form, no: Value, yes: Value) -> Result<Value, Memory>
+pub fn write_test(alloc: Global, form: &Form, no: Value, yes: Value) -> Result<Value, Memory>
     requires { IsSmallForm NUMBER_SIZE form.now }
     ensures value { IfOk result (λ value. view value ≡ test_data form.now (view no) (view yes)) }
     ensures read { IfOk result (λ _. IsReadBack form_shape form.now) }

@@ -10,7 +10,8 @@ use crate::multipliers::OfMultipliers;
 use crate::walks::OfWalk;
 use affine_form::Memory;
 use json_parts::{
-    Any16, CertError, End, Few, ListOf, OrNull, Part, has_keys, put_part, read_object, write_object,
+    Any16, Boxed, CertError, End, Few, ListOf, OrNull, Part, has_keys, put_part, read_object,
+    write_object,
 };
 use json_values::Json;
 use reuse_paths::{Reach, Region, Spot};
@@ -40,10 +41,7 @@ impl Part for OfRegion {
             value,
             &["rows", "tree"],
         )?;
-        Ok(Region {
-            rows,
-            tree: Box::new(alloc, tree)?,
-        })
+        Ok(Region { rows, tree })
     }
 
     #[tactic(auto, unfolding(crate::specs::Reaches::region_shape))]
@@ -93,7 +91,7 @@ pub struct OfReach {}
 
 type Shown = ListOf<OfMultipliers>;
 
-type Nodes = ListOf<OrNull<OfRegion>>;
+type Nodes = ListOf<OrNull<Boxed<OfRegion>>>;
 
 impl Part for OfReach {
     type Value = Reach;

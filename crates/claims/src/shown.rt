@@ -21,7 +21,7 @@ fn is_followed(system: &System, goal: &Form, shown: &Multipliers) -> bool
 }
 
 /// Whether the multipliers show that the system has no point.
-fn is_pointless(system: &System, shown: &Multipliers) -> bool
+pub fn is_pointless(system: &System, shown: &Multipliers) -> bool
     ensures { IsTrue result ↔ (IsPointless system.now shown.now) }
 {
     let _scale = shown.c();

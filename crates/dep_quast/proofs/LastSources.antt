@@ -64,7 +64,7 @@ level-from (d ∷ loops) zero t s h = tt
 level-from (d ∷ loops) (suc level) t s (inl less) = level-from loops level t s (inl (omega arith))
 level-from (d ∷ loops) (suc level) t s (inr last) = level-from loops level t s (inr (omega (arith, last.0), last.1))
 
-Member-levels : (program : AffineProgram) (t s level : ℕ) → HasLevel (common_loops program t s) level t s → Member level (levels program t s)
+pub Member-levels : (program : AffineProgram) (t s level : ℕ) → HasLevel (common_loops program t s) level t s → Member level (levels program t s)
 Member-levels program t s level h = counted-has 0 (level_count program t s) level (omega arith) (below (nat_lt t s) refl (level-cases (common_loops program t s) level t s h)) where
   below : (b : Bool) → b ≡ nat_lt t s → (level < length (common_loops program t s)) ⊎ ((level ≡ length (common_loops program t s)) × (t < s))
       → level < 0 + (length (common_loops program t s) + (if b then 1 else 0))

@@ -19,7 +19,7 @@ use Rattle.affine_form.specs.Shown.{HasNoPoint}
 use Rattle.affine_form.specs.System.{AffineSystem, IsMet}
 use Rattle.affine_form.proofs.ShownLemmas.{Shows-none}
 use Rattle.affine_form.specs.Rows.{put_in, IsSmallOver}
-use Rattle.base_laws.proofs.Forms.{form_value-front}
+use Rattle.iolb_model.proofs.Forms.{form_value-front}
 use Rattle.affine_form.proofs.Meaning.{form_value-difference}
 use Rattle.dep_quast.specs.Tree.{SourceClaim, Leaf, source, input, empty, blank, SelectionTree, leaf, test, leaf_at}
 use Rattle.dep_quast.specs.Context.{ReadOf, reference_of, variables_at, no_row, context, reader_point, parameter_point, earlier_writes, writes_between}

@@ -10,7 +10,7 @@ use Rattle.iolb_model.specs.Form.{AffineForm, form_value, AreMet, are_met}
 use Rattle.iolb_model.specs.Path.{PathStep, bounded, guarded, first_of, item_path, row_path}
 use Rattle.iolb_model.specs.Program.{Item, assign, loop, guard, Row, done, next, AffineProgram, IsWellFormed, item_statements, row_statements}
 use Rattle.iolb_model.specs.Execution.{Instance, loop_values, at_value, item_runs, row_runs, execution}
-use Rattle.base_laws.proofs.Forms.{are_met-says, are_met-from}
+use Rattle.iolb_model.proofs.Forms.{are_met-says, are_met-from}
 use Rattle.execution_laws.specs.Domain.{DomainsAreExecuted}
 use Rattle.iolb_model.specs.Domain.{IsWithin, LeadAlong}
 use Rattle.execution_laws.proofs.Members.{Member, Member-append_left, Member-append_right, Member-map, Member-flat_map, Member-slice_get}

@@ -9,3 +9,5 @@ pub mod Opened
 pub mod Made
 pub mod Shortened
 pub mod Proposed
+pub mod Products
+pub mod InputReads

@@ -12,6 +12,7 @@ mod named;
 mod nests;
 mod openings;
 mod outlines;
+pub mod products;
 mod proposed;
 mod trees;
 

@@ -23,7 +23,7 @@ use Rattle.affine_form.specs.Rows.{widened, equality_rows}
 use Rattle.affine_form.specs.Shown.{HasNoPoint}
 use Rattle.affine_form.specs.Substitution.{values_at}
 use Rattle.affine_form.specs.System.{AffineSystem, AllOver, IsMet}
-use Rattle.base_laws.proofs.Forms.{form_value-front}
+use Rattle.iolb_model.proofs.Forms.{form_value-front}
 use Rattle.affine_form.proofs.Meaning.{widened-stay, equality_rows-met}
 use Rattle.claims.proofs.Systems.{none-met}
 use Rattle.footprint_pieces.specs.declared.piece.Target.{Target}

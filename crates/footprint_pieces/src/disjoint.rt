@@ -95,7 +95,7 @@ pub fn lists_shown(
 
 /// Whether pieces and those of later lists are shown to have no vertex in common, by the multipliers of the list at this
 /// place from one on, which is moved behind those that are read.
-fn later_shown(
+pub fn later_shown(
     alloc: Global,
     program: &Program,
     pieces: &[Piece],

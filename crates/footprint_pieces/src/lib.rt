@@ -7,6 +7,6 @@ mod piece;
 mod shared;
 mod target_pairs;
 
-pub use disjoint::{check_disjoint, disjoint_pieces_are_apart, lists_shown};
+pub use disjoint::{check_disjoint, disjoint_pieces_are_apart, later_shown, lists_shown};
 pub use piece::{Piece, Target};
 pub use target_pairs::has_pairs;

@@ -3,7 +3,7 @@ use Rattle.std.proofs.Common.{◌≡◌, ◌+◌, ◌≤◌, length, map, None, 
 use Rattle.std.proofs.lemmas.Bool.{leb-true}
 use Rattle.std.proofs.lemmas.List.{length-map}
 use Rattle.std.specs.Prelude.{Option, IfSome}
-use Rattle.certificate_fit.specs.Limits.{NameRows, IsSmallReach, IsSmallWay, IsSmallSpot}
+use Rattle.certificate_fit.specs.Limits.{IsSmallCredit, NameRows, IsSmallReach, IsSmallWay, IsSmallSpot}
 use Rattle.k_partition.specs.declared.term.Partition.{Partition}
 use Rattle.k_partition.specs.View.{credit_term_of, partition_of}
 use Rattle.reuse_paths.specs.declared.family.Credit.{Credit}
@@ -12,7 +12,7 @@ use Rattle.reuse_paths.specs.Walks.{SpotForms, ReachClaim}
 use Rattle.wavefront.specs.declared.cold.Cold.{Cold}
 use Rattle.wavefront.specs.declared.front.Wavefront.{Wavefront}
 use Rattle.iolb_check.specs.Claims.{ColdClaim, FrontClaim, claim_of_cold, claim_of_front, claim_of_term, claim_of_branch, claim_of_certificate}
-use Rattle.iolb_check.specs.Limits.{IsSmallCold, IsSmallFront, IsSmallCredit, IsSmallPartition, IsSmallTerm, IsSmallBranch, CertificateParts, IsWithinLimits}
+use Rattle.iolb_check.specs.Limits.{IsSmallCold, IsSmallFront, IsSmallPartition, IsSmallTerm, IsSmallBranch, CertificateParts, IsWithinLimits}
 use Rattle.iolb_check.specs.declared.term.Term.{Term}
 use Rattle.iolb_check.specs.declared.term.Term.TheVariants as terms
 use Rattle.iolb_check.specs.declared.term.Branch.{Branch}

@@ -30,12 +30,12 @@ use Rattle.reuse_paths.specs.WalkFits.{CreditFits}
 use Rattle.footprint_pieces.proofs.PairCounts.{pairs-many}
 use Rattle.certificate_fit.specs.FamilyFit.{credit_fit}
 use Rattle.certificate_fit.specs.FamilyViews.{credit_at as held_credit}
-use Rattle.certificate_fit.specs.Limits.{AreSmallBounds}
+use Rattle.certificate_fit.specs.Limits.{AreSmallBounds, IsSmallCredit}
 use Rattle.certificate_fit.specs.TreeFit.{trees_fit}
 use Rattle.certificate_fit.proofs.FamilyParts.{families-fit, credit-fits, credit-counts, credits-fit, credits-count}
 use Rattle.certificate_fit.proofs.ReadTrees.{columns-many}
 use Rattle.iolb_check.specs.Fit.{PartitionTermFits}
-use Rattle.iolb_check.specs.Limits.{IsSmallCredit, IsSmallPartition}
+use Rattle.iolb_check.specs.Limits.{IsSmallPartition}
 use Rattle.iolb_check.specs.PartitionFit.{apart_count, credit_at, credits_fit, walked_fit, walks_fit, coordinates_fit, counted_nest, nest_fit, points_fit, number_fit, partition_fit}
 use Rattle.iolb_check.proofs.FamilyTargets.{families-told}
 

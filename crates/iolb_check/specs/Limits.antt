@@ -5,12 +5,11 @@ use Rattle.dep_quast.specs.Tree.{tree_of}
 use Rattle.k_partition.specs.declared.term.Partition.{Partition}
 use Rattle.k_partition.specs.TermLoads.{weight_of}
 use Rattle.k_partition.specs.View.{partition_of}
-use Rattle.reuse_paths.specs.declared.family.Credit.{Credit}
 use Rattle.reuse_paths.specs.Families.{family_of}
 use Rattle.reuse_paths.specs.LeafClaims.{claim_of}
 use Rattle.dep_quast.specs.declared.quasts.Quasts.{Quasts}
 use Rattle.reuse_paths.specs.Walks.{spot_of, reach_of}
-use Rattle.certificate_fit.specs.Limits.{AreSmall, AreSmallBounds, NameRows, IsSmallPolynomial, IsSmallTree, IsSmallEntry, IsSmallFamily, IsSmallReach, IsSmallSpot, IsSmallWay}
+use Rattle.certificate_fit.specs.Limits.{AreSmall, AreSmallBounds, NameRows, IsSmallPolynomial, IsSmallTree, IsSmallCredit, IsSmallEntry, IsSmallFamily, IsSmallReach, IsSmallSpot, IsSmallWay}
 use Rattle.wavefront.specs.declared.cold.Cold.{Cold}
 use Rattle.wavefront.specs.declared.front.Wavefront.{Wavefront}
 use Rattle.iolb_check.specs.declared.term.Term.{Term}
@@ -48,13 +47,6 @@ pub record IsSmallFront (front : Wavefront) : Type 0 where
   pub edge : AllByRecursion IsSmallEntry (map claim_of front.edge.items)
   pub reach : IsSmallWay (option_map reach_of front.reach)
   pub back : IsSmallReach (reach_of front.back)
-
--- a credited nest: at most 6 variables
-pub record IsSmallCredit (credit : Credit) : Type 0 where
-  pub variables : length credit.nest ≤ NEST_VARIABLES
-  pub bounds : AreSmallBounds credit.nest
-  pub shown : NameRows credit.sums.shown
-  pub sums : AllByRecursion IsSmallPolynomial credit.sums.sums
 
 -- A partition term: at most 6 variables; a cover of 1 to 12 times; a from 0 to 64 and b from 0 to 2^20, not both 0; at most 4
 -- credits, and 1 to 6 families, of weights that are 24 together at most.

@@ -2,32 +2,19 @@
 
 ghost use Rattle.std.specs.Prelude.{◌≡◌, ◌+◌, ◌≤◌, ◌↔◌, IsTrue, length, map, sum_by};
 ghost use Rattle.std.specs.List.{AllByRecursion};
-ghost use Rattle.iolb_check.specs.Limits.{IsSmallCredit, IsSmallPartition};
+ghost use Rattle.iolb_check.specs.Limits.{IsSmallPartition};
 ghost use Rattle.iolb_model.specs.declared.limits.TheConstants.{CREDITS, FAMILIES, STRETCH, STRETCH_MORE, WEIGHT, WEIGHTS};
 ghost use Rattle.k_partition.specs.TermLoads.{weight_of};
 ghost use Rattle.k_partition.specs.View.{partition_of};
-ghost use Rattle.certificate_fit.specs.Limits.{IsSmallFamily, NameRows};
+ghost use Rattle.certificate_fit.specs.Limits.{IsSmallCredit, IsSmallFamily, NameRows};
 ghost use Rattle.reuse_paths.specs.declared.family.Family.{Family as family};
 ghost use Rattle.reuse_paths.specs.Families.{family_of};
 
-use crate::term_limits::nest_is_small;
-use certificate_fit::family_limits::are_small_families;
-use certificate_fit::part_limits::name_rows;
+use certificate_fit::family_limits::{are_small_credits, are_small_families};
+use certificate_fit::part_limits::{name_rows, nest_is_small};
 use iolb_model::limits;
 use k_partition::Partition;
-use reuse_paths::{Credit, Family};
-
-/// Whether credited nests are within their limits.
-fn are_small_credits(credits: &[Credit]) -> bool
-    ensures { IsTrue result ↔ AllByRecursion IsSmallCredit credits.now }
-{
-    for credit in credits {
-        if !nest_is_small(&credit.nest, &credit.sums) {
-            return false;
-        }
-    }
-    true
-}
+use reuse_paths::Family;
 
 /// Whether the weights of a partition term's families are 24 together at most.
 fn is_light(term: &Partition) -> bool

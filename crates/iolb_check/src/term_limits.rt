@@ -1,31 +1,19 @@
 //! Whether terms and branches are within their limits.
 
-ghost use Rattle.std.specs.Prelude.{◌≡◌, ◌≤◌, ◌↔◌, IsTrue, length, map, option_map};
+ghost use Rattle.std.specs.Prelude.{◌≡◌, ◌≤◌, ◌↔◌, IsTrue, map, option_map};
 ghost use Rattle.std.specs.List.{AllByRecursion};
 ghost use Rattle.reuse_paths.specs.LeafClaims.{claim_of};
 ghost use Rattle.reuse_paths.specs.Walks.{reach_of, spot_of};
-ghost use Rattle.certificate_fit.specs.Limits.{AreSmall, AreSmallBounds, IsSmallEntry, IsSmallPolynomial, IsSmallReach, IsSmallSpot, IsSmallWay, NameRows};
+ghost use Rattle.certificate_fit.specs.Limits.{AreSmall, IsSmallEntry, IsSmallReach, IsSmallSpot, IsSmallWay, NameRows};
 ghost use Rattle.iolb_check.specs.Limits.{IsSmallBranch, IsSmallCold, IsSmallFront, IsSmallTerm};
-ghost use Rattle.iolb_model.specs.declared.limits.TheConstants.{NEST_VARIABLES, SCALE};
+ghost use Rattle.iolb_model.specs.declared.limits.TheConstants.{SCALE};
 
 use crate::partition_limits::is_small_partition;
 use crate::term::{Branch, Term};
-use certificate_fit::part_limits::{are_small, are_small_polynomials, bounds_are_small, name_rows};
+use certificate_fit::part_limits::{are_small, are_small_polynomials, name_rows, nest_is_small};
 use certificate_fit::walk_limits::{are_small_leaves, is_small_reach, is_small_spot, is_small_way};
-use domain_count::{Nest, Sums};
 use iolb_model::limits;
 use wavefront::{Cold, Wavefront};
-
-/// Whether a term's nest is within its limits, and what is claimed of its number of points.
-pub(crate) fn nest_is_small(nest: &Nest, sums: &Sums) -> bool
-    ensures { IsTrue result ↔ ((length nest.now ≤ NEST_VARIABLES) × AreSmallBounds nest.now
-        × NameRows sums.now.shown × AllByRecursion IsSmallPolynomial sums.now.sums) }
-{
-    nest.bounds().len() <= limits::NEST_VARIABLES
-        && bounds_are_small(nest.bounds())
-        && name_rows(sums.shown())
-        && are_small_polynomials(sums.sums())
-}
 
 /// Whether a scale is within its limits.
 fn is_small_scale(scale: u32) -> bool

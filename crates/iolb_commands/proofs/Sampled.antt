@@ -12,7 +12,7 @@ use Rattle.affine_form.specs.System.{AffineSystem}
 use Rattle.affine_program.specs.Parts.{ProgramParts, meaning}
 use Rattle.find_terms.specs.AcceptedCertificates.{Gives}
 use Rattle.find_terms.specs.Made.{IsMadeFor}
-use Rattle.product_bounds.specs.Openings.{OneProductIsCertified, ProductsHaveOpenings}
+use Rattle.find_terms.specs.Products.{OneProductIsCertified, ProductsHaveOpenings}
 use Rattle.iolb_check.specs.Bounds.{BoundParts, EvaluatesBranch, HasWideBranch, IsWideBranch, bound_of, terms_of}
 use Rattle.iolb_check.specs.Claims.{claim_of_certificate}
 use Rattle.iolb_check.specs.Conditions.{MeetsConditions}

@@ -17,8 +17,8 @@ use crate::stop::Stop;
 use affine_c::products;
 use affine_form::Memory;
 use find_terms::made;
+use find_terms::products::{one_product_is_certified, products_have_openings};
 use iolb_check::Bound;
-use product_bounds::law::{one_product_is_certified, products_have_openings};
 use std::alloc::Global;
 
 /// Makes a certificate of so many matrix products, 1 to 32, and values its bound with 64 red pebbles for matrices of 64 by 64

@@ -45,7 +45,7 @@ module _ (parts-law : PartsAreSound) (families-law : JointFamiliesAreSound) (gro
   before-credits : AllHold (parts ++ images)
   before-credits = AllHold-left (parts ++ images) credits (AllHold-left (parts ++ images ++ credits) cover before-families)
 
-  holds-families : AllHold families
+  pub holds-families : AllHold families
   holds-families = AllHold-right (parts ++ images ++ credits ++ cover) families before-apart
 
   sound-parts : ArePartsSound program term

@@ -57,7 +57,7 @@ rest-chunk condition place i (x ∷ xs) ys (m ∷ shown) enough h = rest-chunk c
 
 -- ---- pieces
 
-among-in : (program : AffineProgram) (parameters : List ℤ) (some more : List FootprintPiece) (vertex : ℕ) → ((piece : FootprintPiece) → Member piece some → Member piece more)
+pub among-in : (program : AffineProgram) (parameters : List ℤ) (some more : List FootprintPiece) (vertex : ℕ) → ((piece : FootprintPiece) → Member piece some → Member piece more)
     → IsInPieces program parameters some vertex → IsInPieces program parameters more vertex
 among-in program parameters [] more vertex wider inside = absurd inside
 among-in program parameters (p ∷ some) more vertex wider (inl here) = in-pieces program parameters more p vertex (wider p (inl refl)) here
@@ -220,18 +220,41 @@ module _ (program : AffineProgram) (trees : List (List SelectionTree)) (term : J
               (λ piece k. Member-append_left piece starts ways (Member-flat_map (start_pieces program trees) from (part_walks family term.parts family.starts) piece n k)) a
           by from n (inr b) = among-in program parameters ways (starts ++ ways) vertex (λ piece k. Member-append_right piece starts ways k) b
 
+-- ---- all families
+
+-- the words of each family are in its pieces
+module _ (cover : WalkPiecesCover) (program : AffineProgram) (trees : List (List SelectionTree)) (term : JointTerm) (place : List Step) (parameters : List ℤ)
+    (formed : IsWellFormed program) (trees-fit : RowsFit program 0 trees) (trees-true : RowsAreTrue program 0 trees)
+    (sound : AllByRecursion (IsSoundPart program (dimensions_of term)) term.parts) (admitted : IsAdmitted program parameters) where
+  pub words-inside : (index : ℕ) (families : List JointFamily) → AllByRecursion (JointFamilyFits program trees term) families
+      → AllHold (numbered (family_claims program trees term place) index families)
+      → (family : JointFamily) → Member family families → (vertex : ℕ) → Member vertex (words_in (walk_family program term parameters family))
+      → IsInPieces program parameters (family_pieces program trees term family) vertex
+  words-inside index [] fit h family m vertex n = absurd m
+  words-inside index (first ∷ families) fit h family (inr m) vertex n =
+      words-inside (suc index) families fit.1 (AllHold-right (family_claims program trees term place index first) (numbered (family_claims program trees term place) (suc index) families) h) family m vertex n
+  words-inside index (first ∷ families) fit h family (inl e) vertex n =
+      let here : List Step = member_at place (codes "families") index in
+      let starts : List Claim = numbered (start_claims program trees term here) 0 (part_walks first term.parts first.starts) in
+      let ways : List Claim = numbered (way_claims program trees term first here) 0 first.ways in
+      let own : AllHold (starts ++ ways) = AllHold-left (family_claims program trees term place index first) (numbered (family_claims program trees term place) (suc index) families) h in
+      let of_ways : AllHold ways = AllHold-right starts ways own in
+      let covered = walks-covered program trees term formed trees-fit trees-true cover sound first here fit.0.entered of_ways parameters admitted 0 term.parts (λ p k. k) first.starts
+      fit.0.entered fit.0.walks (AllHold-left starts ways own) in
+      subst (λ (f : JointFamily). IsInPieces program parameters (family_pieces program trees term f) vertex) (sym e)
+      (family-covered program trees term formed trees-fit trees-true cover sound first here fit.0.entered of_ways parameters admitted covered vertex
+      (subst (λ (f : JointFamily). Member vertex (words_in (walk_family program term parameters f))) e n))
+
 -- ---- groups
 
 module _ (program : AffineProgram) (trees : List (List SelectionTree)) (term : JointTerm) (parameters : List ℤ)
     (inside : (family : JointFamily) → Member family term.families → (vertex : ℕ) → Member vertex (words_in (walk_family program term parameters family))
-    → IsInPieces program parameters (family_pieces program trees term family) vertex)
-    (apart : (vertex : ℕ) (one other : JointFamily) → Member one term.families → Member other term.families → one.group ≢ other.group
-    → IsInPieces program parameters (family_pieces program trees term one) vertex → IsInPieces program parameters (family_pieces program trees term other) vertex → ⊥) where
-  abbrev group_at : ℕ → List WalkFamily
+    → IsInPieces program parameters (family_pieces program trees term family) vertex) where
+  abbrev pub group_at : ℕ → List WalkFamily
   group_at number = map (walk_family program term parameters) (families_in term number)
 
   -- a word of a group is in the pieces of one of its families
-  in-family : (number vertex : ℕ) → Member vertex (group_words (group_at number))
+  pub in-family : (number vertex : ℕ) → Member vertex (group_words (group_at number))
       → (family : JointFamily) × (Member family term.families × ((family.group ≡ number) × IsInPieces program parameters (family_pieces program trees term family) vertex))
   in-family number vertex m =
       let of_walk = Member-flat_map_from words_in vertex (group_at number) m in
@@ -241,50 +264,33 @@ module _ (program : AffineProgram) (trees : List (List SelectionTree)) (term : J
         (chosen.0, (eqb-true of_family.0.group number chosen.1, inside of_family.0 chosen.0 vertex (subst (λ (w : WalkFamily). Member vertex (words_in w)) of_family.1.1 of_walk.1.1))),
       )
 
-  groups-disjoint : (n m : ℕ) → n ≢ m → AreDisjoint (group_words (group_at n)) (group_words (group_at m))
-  groups-disjoint n m differ vertex a b =
-      let one = in-family n vertex (standing-member (group_words (group_at n)) vertex a) in
-      let other = in-family m vertex (standing-member (group_words (group_at m)) vertex b) in
-      apart vertex one.0 other.0 one.1.0 other.1.0 (λ e. differ (sym one.1.1.0 ∙ e ∙ other.1.1.0)) one.1.1.1 other.1.1.1
+  module _ (apart : (vertex : ℕ) (one other : JointFamily) → Member one term.families → Member other term.families → one.group ≢ other.group
+      → IsInPieces program parameters (family_pieces program trees term one) vertex → IsInPieces program parameters (family_pieces program trees term other) vertex → ⊥) where
+    groups-disjoint : (n m : ℕ) → n ≢ m → AreDisjoint (group_words (group_at n)) (group_words (group_at m))
+    groups-disjoint n m differ vertex a b =
+        let one = in-family n vertex (standing-member (group_words (group_at n)) vertex a) in
+        let other = in-family m vertex (standing-member (group_words (group_at m)) vertex b) in
+        apart vertex one.0 other.0 one.1.0 other.1.0 (λ e. differ (sym one.1.1.0 ∙ e ∙ other.1.1.0)) one.1.1.1 other.1.1.1
 
-  apart-later : (n : ℕ) (numbers : List ℕ) → AllByRecursion (λ (y : ℕ). nat_eq n y ≡ false) numbers → AllByRecursion (AreDisjoint (group_words (group_at n))) (map group_words (map group_at numbers))
-  apart-later n [] h = tt
-  apart-later n (m ∷ numbers) h = (groups-disjoint n m (differs n m h.0), apart-later n numbers h.1) where
-    differs : (a b : ℕ) → nat_eq a b ≡ false → a ≢ b
-    differs a b e p = let yes : nat_eq a b ≡ true = eq-eqb a b p in cc
+    apart-later : (n : ℕ) (numbers : List ℕ) → AllByRecursion (λ (y : ℕ). nat_eq n y ≡ false) numbers → AllByRecursion (AreDisjoint (group_words (group_at n))) (map group_words (map group_at numbers))
+    apart-later n [] h = tt
+    apart-later n (m ∷ numbers) h = (groups-disjoint n m (differs n m h.0), apart-later n numbers h.1) where
+      differs : (a b : ℕ) → nat_eq a b ≡ false → a ≢ b
+      differs a b e p = let yes : nat_eq a b ≡ true = eq-eqb a b p in cc
 
-  pairwise : (numbers : List ℕ) → IsDistinct nat_eq numbers → ArePairwiseDisjoint (map group_words (map group_at numbers))
-  unfolding IsDistinct
-  pairwise [] h = tt
-  pairwise (n ∷ numbers) h = (apart-later n numbers h.0, pairwise numbers h.1)
+    pairwise : (numbers : List ℕ) → IsDistinct nat_eq numbers → ArePairwiseDisjoint (map group_words (map group_at numbers))
+    unfolding IsDistinct
+    pairwise [] h = tt
+    pairwise (n ∷ numbers) h = (apart-later n numbers h.0, pairwise numbers h.1)
 
-  pub all-disjoint : ArePairwiseDisjoint (map group_words (map group_at (group_numbers term)))
-  all-disjoint = pairwise (group_numbers term) (IsDistinct-distinct (map (λ (family : JointFamily). family.group) term.families))
+    pub all-disjoint : ArePairwiseDisjoint (map group_words (map group_at (group_numbers term)))
+    all-disjoint = pairwise (group_numbers term) (IsDistinct-distinct (map (λ (family : JointFamily). family.group) term.families))
 
 pub joint-groups-are-apart : WalkPiecesCover → DisjointPiecesAreApart → JointGroupsAreApart
 joint-groups-are-apart cover disjoint program trees term place parameters formed trees-fit trees-true fits sound holds holds-apart admitted =
-    all-disjoint program trees term parameters (inside 0 term.families fits.families holds)
+    all-disjoint program trees term parameters (words-inside cover program trees term place parameters formed trees-fit trees-true sound admitted 0 term.families fits.families holds)
     (λ vertex one other m n differ a b.
     two-apart program trees term disjoint list parameters admitted vertex term.families
     (all-apart program trees term disjoint list term.families 0 term.apart fits.pieces fits.enough holds-apart) one other m n differ a b) where
       list : List Step
       list = place ++ Key (codes "apart") ∷ []
-
-      inside : (index : ℕ) (families : List JointFamily) → AllByRecursion (JointFamilyFits program trees term) families
-          → AllHold (numbered (family_claims program trees term place) index families)
-          → (family : JointFamily) → Member family families → (vertex : ℕ) → Member vertex (words_in (walk_family program term parameters family))
-          → IsInPieces program parameters (family_pieces program trees term family) vertex
-      inside index [] fit h family m vertex n = absurd m
-      inside index (first ∷ families) fit h family (inr m) vertex n =
-          inside (suc index) families fit.1 (AllHold-right (family_claims program trees term place index first) (numbered (family_claims program trees term place) (suc index) families) h) family m vertex n
-      inside index (first ∷ families) fit h family (inl e) vertex n =
-          let here : List Step = member_at place (codes "families") index in
-          let starts : List Claim = numbered (start_claims program trees term here) 0 (part_walks first term.parts first.starts) in
-          let ways : List Claim = numbered (way_claims program trees term first here) 0 first.ways in
-          let own : AllHold (starts ++ ways) = AllHold-left (family_claims program trees term place index first) (numbered (family_claims program trees term place) (suc index) families) h in
-          let of_ways : AllHold ways = AllHold-right starts ways own in
-          let covered = walks-covered program trees term formed trees-fit trees-true cover sound first here fit.0.entered of_ways parameters admitted 0 term.parts (λ p k. k) first.starts
-          fit.0.entered fit.0.walks (AllHold-left starts ways own) in
-          subst (λ (f : JointFamily). IsInPieces program parameters (family_pieces program trees term f) vertex) (sym e)
-          (family-covered program trees term formed trees-fit trees-true cover sound first here fit.0.entered of_ways parameters admitted covered vertex
-          (subst (λ (f : JointFamily). Member vertex (words_in (walk_family program term parameters f))) e n))

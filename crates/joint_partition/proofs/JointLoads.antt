@@ -1,5 +1,5 @@
 -- Sound joint terms are loaded.
-use Rattle.std.proofs.Common.{◌≡◌, refl, sym, ◌∙◌, ap, subst, ℕ, zero, suc, ◌+◌, ◌-◌, ◌*◌, ◌/◌, ◌^◌, ◌<◌, ◌≤◌, List, [], ◌∷◌, length, map, sum_by, arith}
+use Rattle.std.proofs.Common.{◌≡◌, refl, sym, ◌∙◌, ap, subst, ℕ, ◌+◌, ◌-◌, ◌*◌, ◌/◌, ◌^◌, ◌<◌, ◌≤◌, List, [], ◌∷◌, length, map, sum_by, arith}
 use Rattle.std.specs.Prelude.{flat_map}
 use Rattle.std.specs.List.{AllByRecursion}
 use Rattle.std.proofs.Math.IntN.{ℤ}
@@ -25,12 +25,12 @@ use Rattle.stretch_laws.specs.Laws.{IsGreatestAt, JointsAreLoaded, RunsAreLoaded
 use Rattle.stretch_laws.specs.Reuse.{CountedPoint, IsFactor, IsSoundJoint, JointPartition, joint_words, WalkFamily, group_weight, joint_weight, labelings_factor, weight_factor}
 use Rattle.uniform_cover.specs.Greatest.{IsGreatest}
 use Rattle.uniform_cover.specs.Products.{product_by}
-use Rattle.uniform_cover.proofs.Powers.{self_pow_pos}
 use Rattle.uniform_cover.proofs.ProductLemmas.{product_by-map}
 use Rattle.joint_partition.specs.JointLoads.{HasJointNumbers, JointTermsAreLoaded, JointTermsAreLoadedInRuns, factor_over, factor_under, image_count, weight_in, weight_of}
 use Rattle.joint_partition.specs.JointWords.{IsSoundPart, SoundJointTermsAreSound, counted_point, dimensions_of, families_in, group_numbers, joint_partition, labeling_at, part_points, walk_family}
 use Rattle.joint_partition.specs.Term.{JointFamily, JointTerm, PartTerm, credited_nests}
 use Rattle.joint_partition.proofs.GroupSums.{term-product, term-sum}
+use Rattle.joint_partition.proofs.LowestTerms.{joint-numbers-are-positive}
 
 module _ (program : AffineProgram) (term : JointTerm) (parameters : List ℤ) where
   abbrev partition : JointPartition
@@ -68,15 +68,9 @@ module _ (program : AffineProgram) (term : JointTerm) (parameters : List ℤ) wh
       ∙ (λ i. product_by (λ (number : ℕ). weight-at number i ^ weight-at number i) (group_numbers term))
 
   module _ (numbers : StretchNumbers) (has : HasJointNumbers term numbers) where
-    den-positive : 1 ≤ numbers.den
-    den-positive = by numbers.den has.factor.below where
-      by : (den : ℕ) → den * has.factor.common ≡ factor_under term → 1 ≤ den
-      by zero e = absurd (omega (arith, e, self_pow_pos (weight_of term)))
-      by (suc n) e = omega arith
-
     is-factor : IsFactor numbers.num numbers.den partition
     is-factor = record {
-      positive = den-positive;
+      positive = joint-numbers-are-positive term numbers has;
       ratio =
           ap (λ (w : ℕ). numbers.num * w ^ w) weight-is
           ∙ crossed numbers.num numbers.den has.factor.common (factor_over term) (factor_under term) has.factor.above has.factor.below
@@ -91,11 +85,11 @@ module _ (program : AffineProgram) (term : JointTerm) (parameters : List ℤ) wh
     is-greatest : (s : ℕ) → 1 ≤ numbers.q → IsGreatestAt numbers.q numbers.num numbers.den (s + events_of numbers s) partition (points_of numbers s)
     is-greatest s positive =
         subst (λ (w : ℕ). IsGreatest numbers.q numbers.den (numbers.num * (s + events_of numbers s) ^ w) (points_of numbers s)) (has.m ∙ sym weight-is)
-        (greatest-is numbers.q numbers.den (numbers.num * (s + events_of numbers s) ^ numbers.m) positive den-positive)
+        (greatest-is numbers.q numbers.den (numbers.num * (s + events_of numbers s) ^ numbers.m) positive (joint-numbers-are-positive term numbers has))
 
   -- ---- points
 
-  points-many : (parts : List PartTerm) → length (flat_map (part_points program parameters) parts) ≡ sum_by (λ (part : PartTerm). count part.nest parameters) parts
+  pub points-many : (parts : List PartTerm) → length (flat_map (part_points program parameters) parts) ≡ sum_by (λ (part : PartTerm). count part.nest parameters) parts
   points-many [] = refl
   points-many (part ∷ parts) =
       omega (
@@ -106,7 +100,7 @@ module _ (program : AffineProgram) (term : JointTerm) (parameters : List ℤ) wh
         points-many parts,
       )
 
-  points-there : IsAdmitted program parameters → (parts : List PartTerm) → AllByRecursion (IsSoundPart program (dimensions_of term)) parts
+  pub points-there : IsAdmitted program parameters → (parts : List PartTerm) → AllByRecursion (IsSoundPart program (dimensions_of term)) parts
       → AllByRecursion (λ (point : CountedPoint). point.vertex < length (execution program parameters)) (flat_map (part_points program parameters) parts)
   points-there admitted [] sound = tt
   points-there admitted (part ∷ parts) sound =

@@ -1,6 +1,10 @@
 pub mod SplitEnds
 pub mod Images
 pub mod PartWalks
+pub mod WaySettings
+pub mod Indexed
+pub mod ScaledForms
+pub mod StartsFound
 pub mod JointReuse
 pub mod GroupSums
 pub mod JointSound
@@ -10,7 +14,11 @@ pub mod MovedClaims
 pub mod FamiliesSound
 pub mod GroupsApart
 pub mod ClaimsCost
-pub mod Weights
 pub mod RowCounts
 pub mod SplitLists
 pub mod PartSums
+pub mod Factors
+pub mod LowestTerms
+pub mod GroupNumbers
+pub mod JointCounts
+pub mod JointValues

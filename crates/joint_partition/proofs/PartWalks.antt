@@ -47,7 +47,7 @@ node-has : (region : Option WalkRegion) (label : Option (List AffineForm)) → n
 node-has region None = refl
 node-has region (Some label) = refl
 
-nodes-have : (labels : List (Option (List AffineForm))) (regions : List (Option WalkRegion)) → map node_label (way_nodes labels regions) ≡ labels
+pub nodes-have : (labels : List (Option (List AffineForm))) (regions : List (Option WalkRegion)) → map node_label (way_nodes labels regions) ≡ labels
 nodes-have [] regions = refl
 nodes-have (label ∷ labels) [] = cons-same _ _ _ _ (node-has None label) (nodes-have labels [])
 nodes-have (label ∷ labels) (region ∷ regions) = cons-same _ _ _ _ (node-has region label) (nodes-have labels regions)

@@ -7,3 +7,9 @@ pub mod JointFits
 pub mod JointCosts
 pub mod SplitFits
 pub mod View
+pub mod Limits
+pub mod JointNumbers
+pub mod JointCounts
+pub mod JointRuns
+pub mod JointValues
+pub mod FamiliesFit

@@ -6,8 +6,8 @@ use Rattle.domain_count.specs.Claims.{FitsCount}
 use Rattle.iolb_model.specs.Program.{AffineProgram}
 use Rattle.iolb_model.specs.declared.limits.TheConstants.{NEST_VARIABLES, TREE_TESTS, WEIGHTS}
 use Rattle.k_partition.specs.View.{FitsCredit, credit_term_of}
-use Rattle.reuse_paths.specs.Families.{forms_of}
-use Rattle.reuse_paths.specs.Walks.{region_of, tree_of_walk}
+use Rattle.reuse_paths.specs.Families.{boxed_forms}
+use Rattle.reuse_paths.specs.Walks.{boxed_region, tree_of_walk}
 use Rattle.joint_partition.specs.declared.term.Joint.{Joint}
 use Rattle.joint_partition.specs.declared.term.JointFamily.{JointFamily as Family}
 use Rattle.joint_partition.specs.declared.term.Labeling.{Labeling}
@@ -42,10 +42,10 @@ part_of part = record {
 }
 
 abbrev pub labeling_of : Labeling → LabelForms
-labeling_of labels = record { nodes = map (option_map forms_of) labels.nodes.items; inputs = map (option_map forms_of) labels.inputs.items }
+labeling_of labels = record { nodes = map (option_map boxed_forms) labels.nodes.items; inputs = map (option_map boxed_forms) labels.inputs.items }
 
 abbrev pub way_of : Way → WayTerm
-way_of way = record { labels = way.labels; regions = map (option_map region_of) way.regions.items }
+way_of way = record { labels = way.labels; regions = map (option_map boxed_region) way.regions.items }
 
 abbrev pub start_of : Start → StartTerm
 start_of start = record { way = start.way; tree = tree_of_walk start.tree }

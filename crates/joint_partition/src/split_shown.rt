@@ -1,32 +1,23 @@
 //! Whether a split shows that a system has no whole-number point.
 #![tactic(auto, using(claims::proofs::Found::in_a_row))]
 
-ghost use Rattle.std.specs.Prelude.{◌≡◌, ◌≤◌, ◌+◌, ◌++◌, ◌∷◌, [], length, IfOk, IsTrue, ◌↔◌, codes};
-ghost use Rattle.affine_form.specs.Rows.{IsSmallOver};
+ghost use Rattle.std.specs.Prelude.{◌≤◌, ◌+◌, ◌++◌, ◌∷◌, [], length, codes};
 ghost use Rattle.affine_form.specs.System.{AllOver};
 ghost use Rattle.claims.specs.Claims.{Decides};
 ghost use Rattle.claims.specs.Shown.{IsPointless};
 ghost use Rattle.claims.specs.declared.place.Step.TheVariants.{Key};
-ghost use Rattle.dep_quast.specs.Context.{no_row};
 ghost use Rattle.iolb_model.specs.declared.limits.TheConstants.{ROWS, VARIABLES};
 ghost use Rattle.joint_partition.specs.SplitFits.{SplitFits, nesting};
 ghost use Rattle.joint_partition.specs.Splits.{split_claims};
 ghost use Rattle.joint_partition.specs.View.{split_of};
 
 use crate::term::Split;
-use affine_form::{Form, Memory, Multipliers, System, empty, system_of};
+use affine_form::{Form, Multipliers, system_of};
 use claims::lists::with_form;
+use claims::shown::is_pointless;
 use claims::{ObjectKey, Place, Refused, Step, refusal};
-use dep_quast::open_leaves::opposite;
+use reuse_paths::walk_shown::rows_of_no;
 use std::alloc::Global;
-
-/// Whether the multipliers show that the system has no point.
-fn is_pointless(system: &System, shown: &Multipliers) -> bool
-    ensures { IsTrue result ↔ (IsPointless system.now shown.now) }
-{
-    let _scale = shown.c();
-    empty(system, shown)
-}
 
 /// Whether these multipliers show that no point meets the rows, at `empty` behind this place.
 fn end_shown(
@@ -47,17 +38,6 @@ fn end_shown(
         return Err(refusal(alloc, 25, &end));
     }
     Ok(())
-}
-
-/// Rows, and that a form is at most -1.
-fn rows_of_no(alloc: Global, vars: usize, rows: &[Form], form: &Form) -> Result<Vec<Form>, Memory>
-    requires few { vars ≤ VARIABLES }
-    requires rows_over { AllOver vars rows.now }
-    requires form_over { IsSmallOver vars form.now }
-    ensures rows { IfOk result (λ all. all.items ≡ rows.now ++ no_row vars form.now ∷ []) }
-    ensures over { IfOk result (λ all. AllOver vars all.items) }
-{
-    with_form(alloc, rows, opposite(alloc, vars, form)?)
 }
 
 /// Whether a split is shown, end by end, `yes` before `no`: that no point meets the rows and those of the tests on the way.

@@ -37,15 +37,15 @@ pub struct Part {
 /// and for each array none, or that of its cells, as forms over the parameters and the subscripts.
 #[derive(Debug, Drop)]
 pub struct Labeling {
-    pub nodes: Vec<Option<Vec<Form>>>,
-    pub inputs: Vec<Option<Vec<Form>>>,
+    pub nodes: Vec<Option<Box<Vec<Form>>>>,
+    pub inputs: Vec<Option<Box<Vec<Form>>>>,
 }
 
 /// A way of walks: the number of a labeling, and for each statement none, or the region from which walks go on.
 #[derive(Debug, Drop)]
 pub struct Way {
     pub labels: u8,
-    pub regions: Vec<Option<Region>>,
+    pub regions: Vec<Option<Box<Region>>>,
 }
 
 /// How walks start from the points of a part, and the number of the way that they enter.

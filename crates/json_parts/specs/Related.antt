@@ -1,6 +1,7 @@
 -- What was read, beside what the text says.
-use Rattle.std.specs.Prelude.{◌≡◌, ⊤, List, [], ◌∷◌, map, Bool, true, false, Option, None, Some, option_map, Vec}
+use Rattle.std.specs.Prelude.{◌≡◌, ⊤, List, [], ◌∷◌, map, Bool, true, false, Option, None, Some, option_map, Box, Vec}
 use Rattle.std.proofs.Common.{refl, ap}
+use Rattle.std.specs.Box.{box_value}
 use Rattle.std.specs.Global.{Global}
 use Rattle.json_parts.specs.Truths.{never}
 
@@ -82,4 +83,15 @@ option_link link = record {
   Is = IsSaidOption link.is_plain link.said link.Is;
   is_plain = link.is_plain;
   plain = λ plain one found is. option_plain link.is_plain link.said link.Is plain one found is;
+}
+
+-- the same of a value in a box
+abbrev pub box_link : {A X : Type 0} → Link A X → Link A (Box X Global)
+box_link link = record {
+  said = λ one. link.said (box_value one);
+  all_said = map (λ one. link.said (box_value one));
+  each_said = λ xs. refl;
+  Is = λ said one. link.Is said (box_value one);
+  is_plain = link.is_plain;
+  plain = λ plain said one is. link.plain plain said (box_value one) is;
 }

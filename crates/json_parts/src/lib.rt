@@ -7,6 +7,7 @@
 //! the value at fault from the value that is read.
 #![tactic(auto)]
 
+mod boxed;
 mod error;
 mod json;
 mod lists;
@@ -16,6 +17,7 @@ mod numbers;
 mod part;
 mod puts;
 
+pub use boxed::Boxed;
 pub use error::{CertError, CertFault, fault, under};
 pub use json::{elements, has_keys, integer, list, natural, short_list};
 pub use lists::{Few, ListOf, write_list};

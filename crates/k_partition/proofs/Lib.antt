@@ -1,4 +1,5 @@
 pub mod Joints
+pub mod JointLaws
 pub mod ReusedWords
 pub mod TermCovers
 pub mod FixedRows

@@ -1,9 +1,7 @@
 -- Where the later writes of an output's cell are shown to have no point, no later instance writes it.
-use Rattle.std.proofs.Common.{◌≡◌, refl, sym, ◌∙◌, ap, subst, inl, inr, ℕ, zero, suc, ◌+◌, ◌<◌, ◌≤◌, Bool, true, false, List, [], ◌∷◌, ◌++◌, length, map, get_or, arith}
-use Rattle.std.specs.Prelude.{◌⊎◌, ◌==◌, nat_lt, if◌then◌else◌}
+use Rattle.std.proofs.Common.{◌≡◌, refl, sym, ◌∙◌, ap, subst, ℕ, zero, suc, ◌+◌, ◌<◌, ◌≤◌, Bool, true, false, List, [], ◌∷◌, ◌++◌, length, map, get_or, arith}
 use Rattle.std.proofs.Math.IntN.{ℤ, pos}
 use lib.Signed.{◌≤ℤ◌}
-use Rattle.std.proofs.lemmas.Bool.{lt-ltb}
 use Rattle.std.proofs.lemmas.List.{append_assoc, length-append, length-map, map-append}
 use Rattle.base_laws.proofs.Lists.{All-append}
 use Rattle.iolb_model.specs.Form.{AffineForm, form_value}
@@ -15,33 +13,24 @@ use Rattle.iolb_model.specs.Source.{Cell, written_cell}
 use Rattle.iolb_model.specs.Domain.{IsAt, IsInDomain, IsWithin, LeadAlong}
 use Rattle.iolb_model.specs.Order.{Precedes, common_loops}
 use Rattle.execution_laws.proofs.Members.{Member, Member-flat_map, Member-map}
-use Rattle.execution_laws.proofs.Domains.{counted-has, domains_executed, way-below}
+use Rattle.execution_laws.proofs.Domains.{domains_executed, way-below}
 use Rattle.execution_laws.proofs.Orders.{order_by_levels}
 use Rattle.execution_laws.proofs.Ways.{there-holds, within-length}
 use Rattle.affine_form.specs.Substitution.{values_at}
 use Rattle.affine_form.specs.System.{AffineSystem, IsMet}
 use Rattle.affine_form.specs.Rows.{equality_rows, order_rows, widened}
 use Rattle.affine_form.proofs.RowLemmas.{length-variables}
-use Rattle.affine_form.proofs.Meaning.{HasLevel, equality_rows-met, order_rows-met, values-end, values-front, values_at-front, values_at-put_in, widened-stay}
+use Rattle.affine_form.proofs.Meaning.{equality_rows-met, order_rows-met, values-end, values-front, values_at-front, values_at-put_in, widened-stay}
 use Rattle.affine_program.specs.Domain.{bounds_at, depth_of, path_of, domain_rows}
 use Rattle.dep_quast.specs.Context.{parameter_point}
-use Rattle.dep_quast.specs.Levels.{level_count, levels, writers}
+use Rattle.dep_quast.specs.Levels.{levels, writers}
 use Rattle.reuse_paths.proofs.NestPoints.{nest-met-before}
 use Rattle.store_terms.specs.Claims.{OutputClaim}
-use Rattle.dep_quast.proofs.LastSources.{Member-writers, level-cases}
+use Rattle.dep_quast.proofs.LastSources.{Member-levels, Member-writers}
 use Rattle.last_writers.specs.OutputClaims.{later_values, later_write, later_writes, output_system, output_variables, variables_with, write_rows, written_forms}
 use Rattle.last_writers.specs.Fitting.{OutputFits}
 use Rattle.last_writers.specs.Outputs.{output_instance}
 use Rattle.affine_program.proofs.Domains.{domain_rows-met}
-
-Member-levels : (program : AffineProgram) (t s level : ℕ) → HasLevel (common_loops program t s) level t s → Member level (levels program t s)
-Member-levels program t s level h = counted-has 0 (level_count program t s) level (omega arith) (below (nat_lt t s) refl (level-cases (common_loops program t s) level t s h)) where
-  below : (b : Bool) → b ≡ nat_lt t s → (level < length (common_loops program t s)) ⊎ ((level ≡ length (common_loops program t s)) × (t < s))
-      → level < 0 + (length (common_loops program t s) + (if b then 1 else 0))
-  below true e (inl less) = omega arith
-  below true e (inr last) = omega (arith, last.0)
-  below false e (inl less) = omega arith
-  below false e (inr last) = absurd (let true_test : nat_lt t s ≡ true = lt-ltb t s last.1 in cc)
 
 module _ (program : AffineProgram) (output : OutputClaim) (well : IsWellFormed program) (fits : OutputFits program output) (parameters u : List ℤ)
     (admitted : IsAdmitted program parameters) (within : IsWithin output.nest parameters u) where

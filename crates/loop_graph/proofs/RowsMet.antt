@@ -4,7 +4,7 @@ use Rattle.std.specs.Prelude.{◌&&◌, ◌≤ℤ◌, ◌<ℤ◌, int_le}
 use Rattle.std.proofs.Math.IntN.{ℤ, pos}
 use Rattle.std.proofs.lemmas.Int.{ints}
 use Rattle.iolb_model.specs.Form.{AffineForm, form_value, are_met}
-use Rattle.base_laws.proofs.Forms.{are_met-says}
+use Rattle.iolb_model.proofs.Forms.{are_met-says}
 
 -- where the first row is met the others say whether all are
 pub met_first : (row : AffineForm) (rows : List AffineForm) (point : List ℤ) → pos 0 ≤ℤ form_value row point → are_met rows point ≡ are_met (row ∷ rows) point

@@ -4,23 +4,12 @@ use Rattle.std.specs.Prelude.{◌⊎◌}
 use Rattle.std.specs.List.{range_with_len}
 use Rattle.std.proofs.lemmas.Bool.{cases_eq}
 use Rattle.std.proofs.lemmas.List.Sums.{sum_by_more}
+use Rattle.base_laws.proofs.Ranges.{range-more}
 use Rattle.iolb_model.specs.Tower.{capacity_up_to}
 use Rattle.iolb_check.specs.Bounds.{HasWideBranch}
 use Rattle.iolb_check.specs.declared.bound.Value.{Value}
 use Rattle.memory_levels.specs.Climbs.{boundaries}
 use Rattle.memory_levels.specs.Values.{IsWideAtLevels}
-
-range-more : (a n : ℕ) → range_with_len a (n + 1) ≡ range_with_len a n ++ (a + n) ∷ []
-range-more a zero = ap (λ (m : ℕ). m ∷ []) (none a) where
-  none : (m : ℕ) → m ≡ m + 0
-  none m = omega arith
-range-more a (suc n) =
-    ap (range_with_len a) (next n) ∙ ap (λ (l : List ℕ). a ∷ l) (range-more (a + 1) n ∙ ap (λ (m : ℕ). range_with_len (a + 1) n ++ m ∷ []) (shift a n)) where
-      next : (m : ℕ) → suc m + 1 ≡ suc (m + 1)
-      next m = omega arith
-
-      shift : (b m : ℕ) → b + 1 + m ≡ b + suc m
-      shift b m = omega arith
 
 -- the levels up to one more
 pub sum-more : (capacities : List ℕ) (i held : ℕ) → i < length capacities → held ≡ capacity_up_to capacities i → held + get_or capacities i 0 ≡ capacity_up_to capacities (i + 1)

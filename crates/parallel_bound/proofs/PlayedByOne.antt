@@ -13,7 +13,7 @@ use Rattle.iolb_model.specs.Parallel.{AreAllowedThere, ParallelBoard, ParallelMo
 use Rattle.parallel_bound.specs.Merging.{ParallelPebblingsMerge, added_up}
 use Rattle.parallel_bound.proofs.HeldMarks.{is_held}
 use Rattle.parallel_bound.proofs.Merge.{AreRedsOf, kept, merged, merged-allowed, merged-leaves}
-use Rattle.parallel_bound.proofs.Sums.{added-more, added-nothing, added-same, one-has}
+use Rattle.parallel_bound.proofs.Sums.{added-more, added-nothing, added-same, one, one-has}
 
 -- the moves, whoever makes them
 abbrev pub all_moves : List ParallelMove → List Move
@@ -30,9 +30,6 @@ all-below graph s processors (step ∷ steps) board many allowed = (
   omega (arith, allowed.0.0, many),
   all-below graph s processors steps (parallel_board_after board step) (length-set board.reds step.processor (board_after (view_of board step.processor) step.move).red ∙ many) allowed.1,
 )
-
-abbrev one : Bool → ℕ
-one b = cond b 1 0
 
 -- ---- counts of moves, of a kind that no drop is
 

@@ -28,7 +28,8 @@ one-has (suc n) who x h = by (cases_eq who n) (one-has n who x) where
   by (inl e) earlier = omega (arith, ap (λ b. cond b x 0) (eq-eqb who n e), none-has n who x (omega (arith, e)))
   by (inr apart) earlier = omega (arith, ap (λ b. cond b x 0) (ne_eqb who n apart), earlier (omega (arith, h, apart)))
 
-abbrev one : Bool → ℕ
+-- 1 where so, 0 else
+abbrev pub one : Bool → ℕ
 one b = cond b 1 0
 
 -- what is so of one at least is so of all together

@@ -24,10 +24,10 @@ use Rattle.poly_tree.specs.Poly.{Quotient}
 use Rattle.poly_tree.proofs.Expansions.{IsCanonical-more}
 use Rattle.reuse_paths.specs.Families.{FamilyForms, family_of}
 use Rattle.reuse_paths.specs.Walks.{take}
-use Rattle.certificate_fit.specs.Limits.{AreSmall, IsSmallEntry, IsSmallFamily, IsSmallFamilyNode, IsSmallLabel, IsSmallPolynomial, IsSmallWalk, NameRows, NamesRows}
+use Rattle.certificate_fit.specs.Limits.{AreSmall, IsSmallCredit, IsSmallEntry, IsSmallFamily, IsSmallFamilyNode, IsSmallLabel, IsSmallPolynomial, IsSmallWalk, NameRows, NamesRows}
 use Rattle.k_partition.specs.declared.term.Partition.{Partition}
 use Rattle.k_partition.specs.View.{credit_term_of, partition_of}
-use Rattle.iolb_check.specs.Limits.{IsSmallCredit, IsSmallPartition}
+use Rattle.iolb_check.specs.Limits.{IsSmallPartition}
 use Rattle.projective.specs.Projective.{coordinates, projection_sets, reference_to}
 use Rattle.projective.specs.Products.{AreRepeated, AreTaken}
 use Rattle.projective_bounds.specs.Families.{array_families, array_family, array_node, array_read, array_subscripts, array_walk, cell_form, cell_label, entries_of, label_if, loop_form, loops_label, place_among}

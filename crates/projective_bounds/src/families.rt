@@ -4,7 +4,7 @@ ghost use Rattle.std.specs.Prelude.{◌≡◌, ◌≤◌, ◌<◌, ◌+◌, IfOk
 ghost use Rattle.std.specs.List.{AllByRecursion};
 ghost use Rattle.affine_program.specs.Domain.{depth_of};
 ghost use Rattle.affine_program.specs.Parts.{access_of, meaning};
-ghost use Rattle.reuse_paths.specs.Families.{boxed_node, family_of, forms_of};
+ghost use Rattle.reuse_paths.specs.Families.{boxed_node, family_of, boxed_forms};
 ghost use Rattle.dep_quast.specs.Quasts.{trees_of};
 ghost use Rattle.reuse_paths.specs.Walks.{tree_of_walk};
 ghost use Rattle.projective_bounds.specs.Families.{array_families, array_family, array_inputs, array_node, array_read, array_subscripts, array_walk, cell_label, first_to, loops_label};
@@ -90,11 +90,10 @@ fn node(
         return Ok(None);
     }
     let tree = array_walk(alloc, program, quasts, array, set.coords().len())?;
-    let tree = Box::new(alloc, tree)?;
     let rows = Vec::new(alloc);
     let node = FamilyNode {
         label: label(alloc, program, set)?,
-        region: Some(Region { rows, tree }),
+        region: Some(Box::new(alloc, Region { rows, tree })?),
     };
     Ok(Some(Box::new(alloc, node)?))
 }
@@ -119,15 +118,16 @@ fn inputs(
     program: &Program,
     array: u16,
     set: &CoordSet,
-) -> Result<Vec<Option<Vec<Form>>>, Memory>
+) -> Result<Vec<Option<Box<Vec<Form>>>>, Memory>
     requires there { 0 < length program.now.statements }
     requires readable { IsReadable (meaning program.now) array set.now }
-    ensures { IfOk result (λ all. map (option_map forms_of) all.items ≡ array_inputs (meaning program.now) array set.now) }
+    ensures { IfOk result (λ all. map (option_map boxed_forms) all.items ≡ array_inputs (meaning program.now) array set.now) }
 {
     let mut all = Vec::new(alloc);
     for other in 0..program.arrays().len() {
         if other == usize::from(array) {
-            all.push(Some(cells(alloc, program, array, set)?))?;
+            let label = cells(alloc, program, array, set)?;
+            all.push(Some(Box::new(alloc, label)?))?;
         } else {
             all.push(None)?;
         }

@@ -1,18 +1,22 @@
 //! The terms of a program.
 
+use crate::cold::choosing::{Choice, cold_choice};
+use crate::cold::outlines::Outline;
+use crate::cold::terms::cold_term;
+use crate::fronts::terms::wavefronts;
+use crate::partitions::coordinates::Coordinates;
+use crate::partitions::terms::{partition, strength};
+use crate::proposed::Proposed;
 use affine_facts::facts::{Facts, facts_of};
 use affine_facts::numbers::short;
 use affine_facts::words::{Words, apart, are_none_of, copied_words};
 use affine_form::{Memory, Multipliers};
 use affine_program::Program;
-use cold_proposals::{Choice, Outline, cold_choice, cold_term};
 use iolb_model::limits;
 use k_partition::Partition;
-use partition_proposals::{Coordinates, Proposed, partition, strength};
 use reuse_paths::Quasts;
 use std::alloc::Global;
 use wavefront::{Cold, Wavefront};
-use wavefront_proposals::wavefronts;
 
 /// A term that is proposed.
 #[derive(Drop)]
@@ -34,7 +38,7 @@ pub struct Proposal {
 struct Candidate {
     statement: u16,
     kind: Coordinates,
-    proposed: Proposed,
+    proposed: Proposed<Partition>,
 }
 
 /// Puts a candidate behind those that are at least as strong.
@@ -221,7 +225,7 @@ fn nothing(alloc: Global) -> Gathered {
 }
 
 /// A partition term and its words.
-fn alone(alloc: Global, proposed: Proposed) -> Result<Gathered, Memory> {
+fn alone(alloc: Global, proposed: Proposed<Partition>) -> Result<Gathered, Memory> {
     let Proposed { term, words } = proposed;
     Ok(Gathered {
         terms: vec![in alloc; ProposedTerm::Partition(term)]?,

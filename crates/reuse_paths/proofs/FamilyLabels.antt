@@ -13,6 +13,7 @@ use Rattle.claims.proofs.Members.{suc-moved}
 use Rattle.affine_form.specs.Form.{variables, IsSmall, IsSmallForm}
 use Rattle.affine_form.specs.Rows.{variables_from, IsSmallOver}
 use Rattle.affine_form.specs.Substitution.{substitution}
+use Rattle.affine_form.specs.System.{AllOver}
 use Rattle.affine_form.proofs.RowLemmas.{length-variables, length-widened, small-substitution, small-wider, variables-over, variables-substitution}
 use Rattle.affine_program.specs.Domain.{depth_of}
 use Rattle.affine_program.specs.Parts.{ProgramParts, IsProgram, array_of, meaning}
@@ -75,7 +76,7 @@ module _ (walk : WalkSetting) (statement : ℕ) (kept : KeptLabels) (aim : walk.
   ends : AimFits walk (keeps kept)
   ends = subst (AimFits walk) aim fits.setting.ends.aim
 
-  pub own-over : AllByRecursion (IsSmallOver (region_variables walk statement)) kept.reader
+  pub own-over : AllOver (region_variables walk statement) kept.reader × AllByRecursion (IsSmallForm PUT_SIZE) kept.reader
   own-over = subst (ReaderFits walk statement) aim fits.reader
 
   pub labels-fit : LabelsFit walk.program (length kept.reader) kept
@@ -112,8 +113,12 @@ module _ (walk : WalkSetting) (vars : ℕ) (values : List AffineForm) (few : spo
       ((All-append (IsSmall PUT_SIZE) (substitution form behind).coefficients _ put.0 (All-replicate (IsSmall PUT_SIZE) _ (pos 0) (lit< tt)), put.1), behind-small forms h.1)
 
 -- so are those of a reader's label
-pub own-within : (vars : ℕ) (forms : List AffineForm) → AllByRecursion (IsSmallOver vars) forms → AllByRecursion (λ (form : AffineForm). variables form ≤ vars) forms
-own-within vars forms h = All-weaken (IsSmallOver vars) (λ (form : AffineForm). variables form ≤ vars) forms (λ form g. omega (arith, g.over)) h
+pub own-within : (vars : ℕ) (forms : List AffineForm) → AllOver vars forms → AllByRecursion (λ (form : AffineForm). variables form ≤ vars) forms
+own-within vars forms h = All-weaken (λ (form : AffineForm). variables form ≡ vars) (λ (form : AffineForm). variables form ≤ vars) forms (λ form g. omega (arith, g)) h
 
-pub own-small : (vars : ℕ) (forms : List AffineForm) → AllByRecursion (IsSmallOver vars) forms → AllByRecursion (IsSmallForm PUT_SIZE) forms
-own-small vars forms h = All-weaken (IsSmallOver vars) (IsSmallForm PUT_SIZE) forms (λ form g. small-wider form g.small) h
+-- a label of a certificate is a reader's
+pub own-reads : (vars : ℕ) (forms : List AffineForm) → AllByRecursion (IsSmallOver vars) forms → AllOver vars forms × AllByRecursion (IsSmallForm PUT_SIZE) forms
+own-reads vars forms h = (
+  All-weaken (IsSmallOver vars) (λ (form : AffineForm). variables form ≡ vars) forms (λ form g. g.over) h,
+  All-weaken (IsSmallOver vars) (IsSmallForm PUT_SIZE) forms (λ form g. small-wider form g.small) h,
+)

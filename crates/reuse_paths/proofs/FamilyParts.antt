@@ -12,8 +12,10 @@ use Rattle.claims.specs.declared.place.Step.TheVariants.{Index}
 use Rattle.claims.specs.declared.refused.Refused.{Refused}
 use Rattle.claims.proofs.Found.{refused-here, decides-later}
 use Rattle.claims.proofs.Members.{suc-moved}
+use Rattle.affine_form.specs.Form.{IsSmallForm}
 use Rattle.affine_form.specs.Matrix.{IntegerMatrix}
 use Rattle.affine_form.specs.Rows.{IsSmallOver}
+use Rattle.affine_form.specs.System.{AllOver}
 use Rattle.affine_program.specs.Domain.{depth_of}
 use Rattle.dep_quast.specs.Tree.{SelectionTree}
 use Rattle.reuse_paths.specs.Families.{CreditedNest, FamilyForms, NodeForms, node_label, node_region}
@@ -24,6 +26,8 @@ use Rattle.reuse_paths.specs.WalkFits.{AreInstanceLabels, IsLabel, IsLabelIf, La
 use Rattle.reuse_paths.specs.WalkSettings.{KeptLabels, WalkSetting, region_variables}
 use Rattle.reuse_paths.specs.WalkViews.{ReadingFits, SettingFits}
 use Rattle.reuse_paths.specs.Walks.{WalkRegion}
+use Rattle.reuse_paths.proofs.FamilyLabels.{own-reads}
+use Rattle.iolb_model.specs.declared.limits.TheConstants.{PUT_SIZE}
 
 module _ (program : AffineProgram) (trees : List (List SelectionTree)) (credits : List CreditedNest) (family : FamilyForms) where
   -- the setting of walks from readers with a label
@@ -39,7 +43,7 @@ module _ (program : AffineProgram) (trees : List (List SelectionTree)) (credits 
   more-rows reader label first None regions fits rows = rows
   more-rows reader label first (Some region) regions fits rows = (fits.0, rows)
 
-  nodes-rows : (reader : List AffineForm) (first : ℕ) (nodes : List (Option NodeForms)) → NodesFit program trees credits family first nodes → RegionRowsFit (from reader) first (map node_region nodes)
+  pub nodes-rows : (reader : List AffineForm) (first : ℕ) (nodes : List (Option NodeForms)) → NodesFit program trees credits family first nodes → RegionRowsFit (from reader) first (map node_region nodes)
   nodes-rows reader first [] fits = tt
   nodes-rows reader first (None ∷ nodes) fits = nodes-rows reader (suc first) nodes fits.1
   nodes-rows reader first (Some node ∷ nodes) fits = more-rows reader node.label first node.region (map node_region nodes) fits.0 (nodes-rows reader (suc first) nodes fits.1)
@@ -53,9 +57,10 @@ module _ (program : AffineProgram) (trees : List (List SelectionTree)) (credits 
   flat n = omega arith
 
   -- a label over the parameters and a statement's loop values is over the variables of its region
-  label-over : (reader label : List AffineForm) (statement : ℕ) → AllByRecursion (IsSmallOver (length program.parameters + depth_of program statement)) label
-      → AllByRecursion (IsSmallOver (region_variables (from reader) statement)) label
-  label-over reader label statement over = subst (λ (n : ℕ). AllByRecursion (IsSmallOver (n + depth_of program statement)) label) (flat (length program.parameters)) over
+  reads : (reader label : List AffineForm) (statement : ℕ) → AllByRecursion (IsSmallOver (length program.parameters + depth_of program statement)) label
+      → AllOver (region_variables (from reader) statement) label × AllByRecursion (IsSmallForm PUT_SIZE) label
+  reads reader label statement over =
+      own-reads (region_variables (from reader) statement) label (subst (λ (n : ℕ). AllByRecursion (IsSmallOver (n + depth_of program statement)) label) (flat (length program.parameters)) over)
 
   -- the setting of the walks from instances that are counted fits
   pub counted-reading : (statement : ℕ) (nest : List (AffineForm × AffineForm)) (matrix : IntegerMatrix) → RowsFit program 0 trees → FamilyFits program trees statement nest matrix credits family
@@ -71,7 +76,7 @@ module _ (program : AffineProgram) (trees : List (List SelectionTree)) (credits 
       rows = nodes-rows family.start_label 0 family.nodes fits.regions;
     };
     there = fits.counted.there;
-    reader = label-over family.start_label family.start_label statement fits.start_label.over;
+    reader = reads family.start_label family.start_label statement fits.start_label.over;
   }
 
   label-at : (size first i : ℕ) (nodes : List (Option NodeForms)) (node : NodeForms) (d : Option NodeForms) → AreInstanceLabels program size first (map node_label nodes) → i < length nodes
@@ -99,7 +104,7 @@ module _ (program : AffineProgram) (trees : List (List SelectionTree)) (credits 
           rows = other-rows node.label family.start_label 0 (map node_region family.nodes) fits.rows;
         };
         there = omega (arith, below, fits.each, length-map family.nodes node_region);
-        reader = label-over node.label node.label i label.over;
+        reader = reads node.label node.label i label.over;
       }
 
   -- the region of a node fits

@@ -4,10 +4,12 @@ use Rattle.std.specs.Prelude.{ℕ, List, map, Option, None, option_map, option_a
 use Rattle.std.specs.Global.{Global}
 use Rattle.std.specs.Box.{box_value}
 use Rattle.iolb_model.specs.Form.{AffineForm}
-use Rattle.reuse_paths.specs.Walks.{WalkTree, tree_of_walk, WalkRegion, region_of}
+use Rattle.reuse_paths.specs.Walks.{WalkTree, tree_of_walk, WalkRegion, boxed_region}
 use Rattle.reuse_paths.specs.declared.family.Credit.{Credit}
 use Rattle.reuse_paths.specs.declared.family.Family.{Family}
 use Rattle.reuse_paths.specs.declared.family.FamilyNode.{FamilyNode}
+use Rattle.reuse_paths.specs.declared.family.Nodes.{Nodes}
+use Rattle.reuse_paths.specs.declared.family.Nodes.TheVariants as held
 
 -- A nest of instances of a statement, by their loop values, in which walks may stop.
 pub record CreditedNest : Type 0 where
@@ -50,14 +52,15 @@ abbrev pub credit_of : Credit → CreditedNest
 credit_of credit = record { statement = credit.statement; nest = credit.nest }
 
 abbrev pub node_of : FamilyNode → NodeForms
-node_of node = record { label = node.label.items; region = option_map region_of node.region }
+node_of node = record { label = node.label.items; region = option_map boxed_region node.region }
 
 -- a node in its box
 abbrev pub boxed_node : Box FamilyNode Global → NodeForms
 boxed_node node = node_of (box_value node)
 
-abbrev pub forms_of : Vec AffineForm Global → List AffineForm
-forms_of forms = forms.items
+-- a label in its box
+abbrev pub boxed_forms : Box (Vec AffineForm Global) Global → List AffineForm
+boxed_forms forms = (box_value forms).items
 
 abbrev pub family_of : Family → FamilyForms
 family_of family = record {
@@ -67,5 +70,14 @@ family_of family = record {
   start_label = family.start_label.items;
   start = tree_of_walk family.start;
   nodes = map (option_map boxed_node) family.nodes.items;
-  inputs = map (option_map forms_of) family.inputs.items;
+  inputs = map (option_map boxed_forms) family.inputs.items;
 }
+
+-- the labels of statements, and the regions, that the code holds
+abbrev pub labels_of : Nodes → List (Option (List AffineForm))
+labels_of (held.Together nodes) = map node_label (map (option_map boxed_node) nodes.now)
+labels_of (held.Apart labels regions) = map (option_map boxed_forms) labels.now
+
+abbrev pub regions_of : Nodes → List (Option WalkRegion)
+regions_of (held.Together nodes) = map node_region (map (option_map boxed_node) nodes.now)
+regions_of (held.Apart labels regions) = map (option_map boxed_region) regions.now

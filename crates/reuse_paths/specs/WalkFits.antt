@@ -4,7 +4,9 @@ use Rattle.std.specs.Prelude.{◌≡◌, ℕ, suc, ◌+◌, ◌*◌, ◌<◌, �
 use Rattle.std.specs.List.{AllByRecursion}
 use Rattle.iolb_model.specs.Form.{AffineForm}
 use Rattle.iolb_model.specs.Program.{Array, AffineProgram}
+use Rattle.affine_form.specs.Form.{IsSmallForm}
 use Rattle.affine_form.specs.Rows.{BoundsFit, IsSmallOver}
+use Rattle.affine_form.specs.System.{AllOver}
 use Rattle.affine_program.specs.Domain.{depth_of}
 use Rattle.dep_quast.specs.Context.{ReadOf}
 use Rattle.dep_quast.specs.Truth.{ReadFits}
@@ -17,7 +19,7 @@ use Rattle.dep_quast.specs.Trees.{read_of}
 use Rattle.reuse_paths.specs.WalkClaims.{leaves_at}
 use Rattle.reuse_paths.specs.WalkSettings.{KeptLabels, WalkAim, arrives_at, keeps, WalkSetting, spot_variables, region_variables, reading_point}
 use Rattle.reuse_paths.specs.Walks.{WalkTree, take, test, WalkRegion, SpotForms}
-use Rattle.iolb_model.specs.declared.limits.TheConstants.{NEST_VARIABLES}
+use Rattle.iolb_model.specs.declared.limits.TheConstants.{NEST_VARIABLES, PUT_SIZE}
 
 -- a nest has few variables, and each bound is over the parameters and the variables before
 pub record NestFits (program : AffineProgram) (nest : List (AffineForm × AffineForm)) : Type 0 where
@@ -72,9 +74,10 @@ abbrev pub AimFits : WalkSetting → WalkAim → Type 0
 AimFits walk (arrives_at target) = SpotFits walk.program (spot_variables walk) target
 AimFits walk (keeps kept) = (length walk.nest ≡ 0) × LabelsFit walk.program (length kept.reader) kept
 
+-- the readers' label is over the variables of their region; its numbers may be those of forms that are computed
 abbrev pub ReaderFits : WalkSetting → ℕ → WalkAim → Type 0
 ReaderFits walk statement (arrives_at target) = ⊤
-ReaderFits walk statement (keeps kept) = AllByRecursion (IsSmallOver (region_variables walk statement)) kept.reader
+ReaderFits walk statement (keeps kept) = AllOver (region_variables walk statement) kept.reader × AllByRecursion (IsSmallForm PUT_SIZE) kept.reader
 
 -- ---- entries
 

@@ -11,24 +11,24 @@ use Rattle.reuse_paths.specs.declared.walking.Aim.{Aim}
 use Rattle.reuse_paths.specs.declared.walking.Aim.TheVariants as aims
 use Rattle.reuse_paths.specs.declared.walking.Kept.{Kept}
 use Rattle.reuse_paths.specs.declared.walking.Walking.{Walking}
-use Rattle.reuse_paths.specs.Families.{credit_of, family_of, node_label, node_region}
+use Rattle.reuse_paths.specs.Families.{boxed_forms, credit_of, labels_of, regions_of}
 use Rattle.dep_quast.specs.OpenLeaves.{LeafOrigin, written, as_input, unknown, OpenLeaf}
 use Rattle.dep_quast.specs.Quasts.{trees_of}
 use Rattle.dep_quast.specs.Trees.{read_of, RowsFit}
 use Rattle.reuse_paths.specs.WalkFits.{NestFits, AimFits, ReaderFits, RegionRowsFit}
 use Rattle.reuse_paths.specs.WalkSettings.{KeptLabels, WalkAim, arrives_at, keeps, WalkSetting, region_variables}
-use Rattle.reuse_paths.specs.Walks.{WalkRegion, region_of, spot_of}
+use Rattle.reuse_paths.specs.Walks.{WalkRegion, boxed_region, spot_of}
 
 -- the regions that the code holds, and what it asks
 abbrev pub nodes_in : Aim → List (Option WalkRegion)
-nodes_in (aims.Arrive nodes target) = map (option_map region_of) nodes.now
-nodes_in (aims.Keep kept) = map node_region (family_of kept.family.now).nodes
+nodes_in (aims.Arrive nodes target) = map (option_map boxed_region) nodes.now
+nodes_in (aims.Keep kept) = regions_of kept.nodes
 
 abbrev pub kept_of : Kept → KeptLabels
 kept_of kept = record {
   reader = kept.reader.now;
-  instances = map node_label (family_of kept.family.now).nodes;
-  cells = (family_of kept.family.now).inputs;
+  instances = labels_of kept.nodes;
+  cells = map (option_map boxed_forms) kept.inputs.now;
   credits = map credit_of kept.credits.now;
 }
 

@@ -1,5 +1,6 @@
 -- Walks back along the sources of reads, as plain values.
-use Rattle.std.specs.Prelude.{ℕ, ◌+◌, List, length, map, Option, option_map}
+use Rattle.std.specs.Prelude.{ℕ, ◌+◌, List, length, map, Option, option_map, Box}
+use Rattle.std.specs.Global.{Global}
 use Rattle.std.specs.Box.{box_value}
 use Rattle.iolb_model.specs.Form.{AffineForm}
 use Rattle.affine_form.specs.Multipliers.{FarkasMultipliers}
@@ -45,11 +46,15 @@ tree_of_walk (walks.Test' form p above q below) = test form (tree_of_walk above)
 tree_of_walk (walks.Take read leaves) = take read (map claim_of leaves.items)
 
 abbrev pub region_of : Region → WalkRegion
-region_of region = record { rows = region.rows.items; tree = tree_of_walk (box_value region.tree) }
+region_of region = record { rows = region.rows.items; tree = tree_of_walk region.tree }
+
+-- a region in its box
+abbrev pub boxed_region : Box Region Global → WalkRegion
+boxed_region region = region_of (box_value region)
 
 abbrev pub spot_of : Spot → SpotForms
 spot_of spot = record { statement = spot.statement; point = spot.point.items }
 
 abbrev pub reach_of : Reach → ReachClaim
 reach_of (reaches.Same equal) = same equal.items
-reach_of (reaches.Walked start nodes) = walked start.items (map (option_map region_of) nodes.items)
+reach_of (reaches.Walked start nodes) = walked start.items (map (option_map boxed_region) nodes.items)

@@ -38,7 +38,7 @@ use footprint_pieces::Piece;
 use std::alloc::Global;
 
 /// Those that a walk takes from the instances of a statement which meet these rows, `yes` before `no`, appended.
-fn push_walk(
+pub fn push_walk(
     alloc: Global,
     pieces: &mut Vec<Piece>,
     walking: &Walking,

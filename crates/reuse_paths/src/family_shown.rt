@@ -18,11 +18,11 @@ ghost use Rattle.reuse_paths.specs.SoundFamilies.{IsSoundFamily};
 ghost use Rattle.dep_quast.specs.Trees.{RowsAreTrue, RowsFit};
 ghost use Rattle.reuse_paths.specs.WalkClaims.{walk_claims};
 ghost use Rattle.reuse_paths.specs.WalkFits.{IsLabel, NestFits, RegionFits, WalkFits};
-ghost use Rattle.reuse_paths.specs.Walks.{region_of, tree_of_walk};
+ghost use Rattle.reuse_paths.specs.Walks.{boxed_region, tree_of_walk};
 ghost use Rattle.reuse_paths.specs.WalkSettings.{region_context, region_variables};
 ghost use Rattle.reuse_paths.specs.WalkViews.{walk_of, ReadingFits, SettingFits};
 
-use crate::family::{Credit, Family, FamilyNode};
+use crate::family::{Credit, Family, FamilyNode, Nodes};
 use crate::law::families_are_sound;
 use crate::region::region_context;
 use crate::walk::{Region, Walk};
@@ -99,7 +99,7 @@ fn label_shown(
 }
 
 /// The rows of a nest of instances of a statement, whose variables are the loop values.
-pub(crate) fn start_rows(
+pub fn start_rows(
     alloc: Global,
     walking: &Walking,
     statement: u16,
@@ -149,12 +149,12 @@ fn region_shown(
     walking: &Walking,
     list: &Place,
     statement: u16,
-    region: &Option<Region>,
+    region: &Option<Box<Region>>,
 ) -> Result<(), Refused>
     requires fits { ReadingFits (walk_of walking.now) statement }
-    requires region_fits { RegionFits (walk_of walking.now) statement (option_map region_of region.now) }
+    requires region_fits { RegionFits (walk_of walking.now) statement (option_map boxed_region region.now) }
     requires condition { walking.now.condition ≡ 15 }
-    ensures { Decides (region_walk (walk_of walking.now) list.now statement (option_map region_of region.now)) result }
+    ensures { Decides (region_walk (walk_of walking.now) list.now statement (option_map boxed_region region.now)) result }
 {
     let Some(region) = region else {
         return Ok(());
@@ -191,7 +191,8 @@ pub(crate) fn walking_from<'a>(
         quasts,
         nest: none,
         aim: Aim::Keep(Kept {
-            family,
+            nodes: Nodes::Together(family.nodes.as_slice()),
+            inputs: family.inputs.as_slice(),
             credits,
             reader,
         }),

@@ -20,6 +20,6 @@ pub enum Reach {
     /// and the statement's loop values. The multipliers show that the spot from which it starts is in its region.
     Walked {
         start: Vec<Multipliers>,
-        nodes: Vec<Option<Region>>,
+        nodes: Vec<Option<Box<Region>>>,
     },
 }

@@ -12,7 +12,7 @@ ghost use Rattle.reuse_paths.specs.ReachClaims.{reach_claims, region_claims, sam
 ghost use Rattle.reuse_paths.specs.ReachFits.{ReachFits};
 ghost use Rattle.dep_quast.specs.Trees.{RowsAreTrue, RowsFit};
 ghost use Rattle.reuse_paths.specs.WalkFits.{NestFits, ReaderFits, RegionsFit, SpotFits};
-ghost use Rattle.reuse_paths.specs.Walks.{reach_of, region_of, spot_of};
+ghost use Rattle.reuse_paths.specs.Walks.{reach_of, boxed_region, spot_of};
 ghost use Rattle.reuse_paths.specs.WalkSettings.{entering_rows, region_at, spot_variables};
 ghost use Rattle.reuse_paths.specs.WalkViews.{walk_of, SettingFits};
 
@@ -100,16 +100,16 @@ fn walked_shown(
     place: &Place,
     from: &Spot,
     start: &[Multipliers],
-    nodes: &[Option<Region>],
+    nodes: &[Option<Box<Region>>],
 ) -> Result<(), Refused>
     requires fits { SettingFits (walk_of walking.now) }
     requires readers { (statement : ℕ) → ReaderFits (walk_of walking.now) statement (walk_of walking.now).aim }
     requires from_fits { SpotFits (walk_of walking.now).program (spot_variables (walk_of walking.now)) (spot_of from.now) }
     requires enough { length start.now ≡ length (entering_rows (walk_of walking.now) (spot_variables (walk_of walking.now)) (region_at (walk_of walking.now).nodes from.now.statement) (spot_of from.now).point) }
     requires each { length nodes.now ≡ length (walk_of walking.now).program.statements }
-    requires regions_fit { RegionsFit (walk_of walking.now) 0 (map (option_map region_of) nodes.now) }
+    requires regions_fit { RegionsFit (walk_of walking.now) 0 (map (option_map boxed_region) nodes.now) }
     ensures { Decides (start_claims walking.now.condition (walk_of walking.now) place.now (spot_of from.now) start.now
-        ++ numbered (region_claims walking.now.condition (walk_of walking.now) (place.now ++ Key (codes "nodes") ∷ [])) 0 (map (option_map region_of) nodes.now)) result }
+        ++ numbered (region_claims walking.now.condition (walk_of walking.now) (place.now ++ Key (codes "nodes") ∷ [])) 0 (map (option_map boxed_region) nodes.now)) result }
 {
     start_shown(alloc, walking, place, from, start)?;
     let list = place.within(alloc, Step::Key(ObjectKey("nodes")))?;

@@ -21,7 +21,7 @@ use std::alloc::Global;
 
 /// The rows of a region with these rows of its own: the assumptions and the bounds of the nest, the domain of the
 /// statement, and its own.
-pub(crate) fn region_context(
+pub fn region_context(
     alloc: Global,
     walking: &Walking,
     statement: u16,

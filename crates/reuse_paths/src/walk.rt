@@ -44,5 +44,5 @@ pub fn entry_count(walk: &Walk) -> usize
 #[derive(Debug, Drop)]
 pub struct Region {
     pub rows: Vec<Form>,
-    pub tree: Box<Walk>,
+    pub tree: Walk,
 }

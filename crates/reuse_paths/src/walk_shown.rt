@@ -18,7 +18,7 @@ ghost use Rattle.dep_quast.specs.Quasts.{tree_at, tree_for};
 ghost use Rattle.reuse_paths.specs.ReachClaims.{region_claims};
 ghost use Rattle.reuse_paths.specs.WalkClaims.{leaves_at, leaves_claims, walk_claims};
 ghost use Rattle.reuse_paths.specs.WalkFits.{EntriesFit, EntryFits, ReaderFits, RegionFits, RegionsFit, TakeFits, WalkFits};
-ghost use Rattle.reuse_paths.specs.Walks.{region_of, tree_of_walk};
+ghost use Rattle.reuse_paths.specs.Walks.{boxed_region, tree_of_walk};
 ghost use Rattle.reuse_paths.specs.WalkSettings.{reading_point, region_variables};
 ghost use Rattle.reuse_paths.specs.WalkViews.{walk_of, OpenLeafFits, OriginFits, ReadingFits, SettingFits};
 ghost use Rattle.iolb_model.specs.declared.limits.TheConstants.{VARIABLES};
@@ -176,7 +176,7 @@ fn take_shown(
 }
 
 /// Rows, and that a form is at most -1.
-pub(crate) fn rows_of_no(
+pub fn rows_of_no(
     alloc: Global,
     vars: usize,
     rows: &[Form],
@@ -192,7 +192,7 @@ pub(crate) fn rows_of_no(
 }
 
 /// Whether what a walk claims from the instances of a statement that meet these rows is shown, `yes` before `no`.
-pub(crate) fn walk_shown(
+pub fn walk_shown(
     alloc: Global,
     walking: &Walking,
     place: &Place,
@@ -236,11 +236,11 @@ fn region_shown(
     walking: &Walking,
     list: &Place,
     statement: u16,
-    node: &Option<Region>,
+    node: &Option<Box<Region>>,
 ) -> Result<(), Refused>
     requires fits { ReadingFits (walk_of walking.now) statement }
-    requires region_fits { RegionFits (walk_of walking.now) statement (option_map region_of node.now) }
-    ensures { Decides (region_claims walking.now.condition (walk_of walking.now) list.now statement (option_map region_of node.now)) result }
+    requires region_fits { RegionFits (walk_of walking.now) statement (option_map boxed_region node.now) }
+    ensures { Decides (region_claims walking.now.condition (walk_of walking.now) list.now statement (option_map boxed_region node.now)) result }
 {
     let Some(region) = node else {
         return Ok(());
@@ -264,13 +264,13 @@ pub(crate) fn regions_shown(
     alloc: Global,
     walking: &Walking,
     list: &Place,
-    nodes: &[Option<Region>],
+    nodes: &[Option<Box<Region>>],
 ) -> Result<(), Refused>
     requires fits { SettingFits (walk_of walking.now) }
     requires readers { (statement : ℕ) → ReaderFits (walk_of walking.now) statement (walk_of walking.now).aim }
     requires each { length nodes.now ≡ length (walk_of walking.now).program.statements }
-    requires regions_fit { RegionsFit (walk_of walking.now) 0 (map (option_map region_of) nodes.now) }
-    ensures { Decides (numbered (region_claims walking.now.condition (walk_of walking.now) list.now) 0 (map (option_map region_of) nodes.now)) result }
+    requires regions_fit { RegionsFit (walk_of walking.now) 0 (map (option_map boxed_region) nodes.now) }
+    ensures { Decides (numbered (region_claims walking.now.condition (walk_of walking.now) list.now) 0 (map (option_map boxed_region) nodes.now)) result }
 {
     let _params = walking.program.params();
     for i in 0..nodes.len() {

@@ -6,7 +6,6 @@ ghost use Rattle.affine_form.specs.Rows.{IsSmallOver};
 ghost use Rattle.affine_program.specs.Domain.{depth_of};
 ghost use Rattle.affine_program.specs.Parts.{IsProgram};
 ghost use Rattle.dep_quast.specs.Context.{variables_at};
-ghost use Rattle.reuse_paths.specs.Families.{family_of, node_region};
 ghost use Rattle.dep_quast.specs.Trees.{read_of};
 ghost use Rattle.reuse_paths.specs.WalkFits.{NestFits};
 ghost use Rattle.reuse_paths.specs.Walks.{region_of};
@@ -14,7 +13,7 @@ ghost use Rattle.reuse_paths.specs.WalkSettings.{region_at, region_values, regio
 ghost use Rattle.reuse_paths.specs.WalkViews.{walk_of};
 ghost use Rattle.iolb_model.specs.declared.limits.TheConstants.{LOOPS, NEST_VARIABLES, PARAMETERS};
 
-use crate::family::{Credit, Family, node_at};
+use crate::family::{Credit, Nodes, node_region, region_in};
 use crate::{Quasts, Region, Spot};
 use affine_form::{Form, Memory, variables_from};
 use affine_program::Program;
@@ -23,11 +22,12 @@ use dep_quast::reader::depth;
 use domain_count::Nest;
 use std::alloc::Global;
 
-/// The labels that the walks of a family keep, from readers whose label these forms are, over the variables of their region;
-/// and the credited nests, in which they may stop.
+/// The labels that walks keep, from readers whose label these forms are, over the variables of their region: those of the
+/// statements, with the regions, and for each array none or that of its cells; and the credited nests, in which they may stop.
 #[derive(Clone, Copy)]
 pub struct Kept<'a> {
-    pub family: &'a Family,
+    pub nodes: Nodes<'a>,
+    pub inputs: &'a [Option<Box<Vec<Form>>>],
     pub credits: &'a [Credit],
     pub reader: &'a [Form],
 }
@@ -37,7 +37,7 @@ pub struct Kept<'a> {
 pub enum Aim<'a> {
     /// That they arrive at a spot, through regions, one or none for each statement.
     Arrive {
-        nodes: &'a [Option<Region>],
+        nodes: &'a [Option<Box<Region>>],
         target: &'a Spot,
     },
     /// That they keep labels.
@@ -110,34 +110,12 @@ pub(crate) fn reading_point(
     followed_by(alloc, params, values.as_slice())
 }
 
-/// The region of a statement in a list, where it has one.
-fn region_in(nodes: &[Option<Region>], statement: u16) -> Option<&Region>
-    ensures { MatchOption result (region_at (map (option_map region_of) nodes.now) statement ≡ None)
-        (λ region. region_at (map (option_map region_of) nodes.now) statement ≡ Some (region_of region.now)) }
-{
-    match nodes.get(usize::from(statement)) {
-        Some(Some(region)) => Some(region),
-        _ => None,
-    }
-}
-
-/// The region of a statement in a family, where it has one.
-fn family_region(family: &Family, statement: u16) -> Option<&Region>
-    ensures { MatchOption result (region_at (map node_region (family_of family.now).nodes) statement ≡ None)
-        (λ region. region_at (map node_region (family_of family.now).nodes) statement ≡ Some (region_of region.now)) }
-{
-    match &node_at(family, statement)?.region {
-        Some(region) => Some(region),
-        None => None,
-    }
-}
-
 /// The region of a statement, where it has one.
 pub fn region_at<'a>(walking: &Walking<'a>, statement: u16) -> Option<&'a Region>
     ensures { MatchOption result (region_at (walk_of walking.now).nodes statement ≡ None) (λ region. region_at (walk_of walking.now).nodes statement ≡ Some (region_of region.now)) }
 {
     match walking.aim {
         Aim::Arrive { nodes, .. } => region_in(nodes, statement),
-        Aim::Keep(kept) => family_region(kept.family, statement),
+        Aim::Keep(kept) => node_region(kept.nodes, statement),
     }
 }

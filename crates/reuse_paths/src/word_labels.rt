@@ -18,7 +18,7 @@ ghost use Rattle.reuse_paths.specs.WalkSettings.{forms_behind, keeps, reading_po
 ghost use Rattle.reuse_paths.specs.WalkViews.{kept_of, walk_of, OriginFits, ReadingFits};
 ghost use Rattle.iolb_model.specs.declared.limits.TheConstants.{LOOPS, PUT_SIZE};
 
-use crate::family::{cell_label, instance_label};
+use crate::family::{instance_label, label_in};
 use crate::region::{forms_behind, written_values};
 use crate::walking::{Kept, Walking, region_variables};
 use affine_form::{Form, Memory, Multipliers, system_of};
@@ -72,7 +72,8 @@ fn same_shown(
     requires few_values { length values.now ≤ LOOPS }
     requires label_over { AllByRecursion (IsSmallOver (spot_variables (walk_of walking.now) + length values.now)) label.now }
     requires values_over { AllByRecursion (IsSmallOver (length (walk_of walking.now).program.parameters + depth_of (walk_of walking.now).program statement)) values.now }
-    requires own_over { AllByRecursion (IsSmallOver (region_variables (walk_of walking.now) statement)) own.now }
+    requires own_over { AllOver (region_variables (walk_of walking.now) statement) own.now }
+    requires own_small { AllByRecursion (IsSmallForm PUT_SIZE) own.now }
     requires one_each { length label.now ≡ length own.now }
     requires enough { length shown.now ≡ 2 * length own.now }
     ensures { Decides (follow_claims 14 (place.now ++ Key key ∷ []) (record { vars = region_variables (walk_of walking.now) statement; rows = rows.now }) 0
@@ -110,7 +111,7 @@ fn written_shown(
         (word_label (walk_of walking.now) (kept_of kept.entry) (read_of reader) (region_variables (walk_of walking.now) reader.statement) (reading_point (walk_of walking.now) reader.statement) (written writer values.now)) shown.now) result }
 {
     let _params = walking.program.params();
-    let Some(label) = instance_label(kept.family, writer) else {
+    let Some(label) = instance_label(kept.nodes, writer) else {
         return Err(refusal(alloc, 14, place));
     };
     same_shown(
@@ -150,7 +151,7 @@ pub(crate) fn input_shown(
 {
     let _params = walking.program.params();
     let cell = reference(walking.program, reader);
-    let Some(label) = cell_label(kept.family, cell.array) else {
+    let Some(label) = label_in(kept.inputs, cell.array) else {
         return Err(refusal(alloc, 14, place));
     };
     same_shown(

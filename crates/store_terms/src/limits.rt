@@ -2,28 +2,17 @@
 
 ghost use Rattle.std.specs.Prelude.{◌≤◌, ◌↔◌, IsTrue, length};
 ghost use Rattle.std.specs.List.{AllByRecursion};
-ghost use Rattle.certificate_fit.specs.Limits.{AreSmall, AreSmallBounds, IsSmallPolynomial, NameRows};
-ghost use Rattle.iolb_model.specs.declared.limits.TheConstants.{NEST_VARIABLES, SCALE};
+ghost use Rattle.certificate_fit.specs.Limits.{AreSmall, NameRows};
+ghost use Rattle.iolb_model.specs.declared.limits.TheConstants.{SCALE};
 ghost use Rattle.store_terms.specs.Limits.{IsSmallOutput, IsWithinLimits};
 
 use crate::output::Output;
 use affine_form::Multipliers;
-use certificate_fit::part_limits::{are_small, are_small_polynomials, bounds_are_small, name_rows};
+use certificate_fit::part_limits::{are_small, name_rows, nest_is_small};
 use iolb_model::limits;
 
 /// Outputs of stores, at most.
 pub const OUTPUTS: usize = 16;
-
-/// Whether an output's nest is within its limits, and what is claimed of its number of points.
-fn nest_is_small(output: &Output) -> bool
-    ensures { IsTrue result ↔ ((length output.now.nest ≤ NEST_VARIABLES) × AreSmallBounds output.now.nest
-        × NameRows output.now.sums.shown × AllByRecursion IsSmallPolynomial output.now.sums.sums) }
-{
-    output.nest.bounds().len() <= limits::NEST_VARIABLES
-        && bounds_are_small(output.nest.bounds())
-        && name_rows(output.sums.shown())
-        && are_small_polynomials(output.sums.sums())
-}
 
 /// Whether an output's instances are within their limits, and what is claimed of them.
 fn instances_are_small(output: &Output) -> bool
@@ -41,7 +30,7 @@ fn instances_are_small(output: &Output) -> bool
 fn is_small_output(output: &Output) -> bool
     ensures { IsTrue result ↔ IsSmallOutput output.now }
 {
-    nest_is_small(output) && instances_are_small(output)
+    nest_is_small(&output.nest, &output.sums) && instances_are_small(output)
 }
 
 /// Whether outputs are within their limits.

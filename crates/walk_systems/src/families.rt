@@ -10,7 +10,7 @@ use dep_quast::Quasts;
 use domain_count::Nest;
 use k_partition::Partition;
 use plain_pages::Page;
-use reuse_paths::{Aim, Credit, Family, Kept, Walking};
+use reuse_paths::{Aim, Credit, Family, Kept, Nodes, Walking};
 use std::alloc::Global;
 
 /// The walks of a family from readers with this label, which no nest is around.
@@ -28,7 +28,8 @@ pub(crate) fn walking_from<'a>(
         quasts,
         nest: none,
         aim: Aim::Keep(Kept {
-            family,
+            nodes: Nodes::Together(family.nodes.as_slice()),
+            inputs: family.inputs.as_slice(),
             credits,
             reader,
         }),

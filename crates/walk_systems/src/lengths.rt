@@ -218,7 +218,7 @@ pub fn family_length(
 fn nodes_length(
     alloc: Global,
     walking: &Walking<'_>,
-    nodes: &[Option<Region>],
+    nodes: &[Option<Box<Region>>],
     steps: &[Step],
 ) -> Result<Option<usize>, Memory> {
     let Some(number) = index_at(steps, 0) else {

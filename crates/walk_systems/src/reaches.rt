@@ -82,7 +82,7 @@ fn write_start(
 fn write_in_nodes(
     page: &mut Page,
     walking: &Walking<'_>,
-    nodes: &[Option<Region>],
+    nodes: &[Option<Box<Region>>],
     steps: &[Step],
 ) -> Result<(), Memory> {
     let Some(number) = index_at(steps, 0) else {

@@ -9,7 +9,7 @@ use asked_systems::{Says, Sum, System, behind, index_at, key_at};
 use claims::Step;
 use dep_quast::reader::Reader;
 use plain_pages::Page;
-use reuse_paths::{Aim, Kept, Leaf, Walk, Walking, region_at};
+use reuse_paths::{Aim, Kept, Leaf, Walk, Walking, instance_label, label_in, region_at};
 use std::alloc::Global;
 
 /// The instances of a statement at which a walk reads.
@@ -25,16 +25,8 @@ pub(crate) fn frame_of<'a>(walking: &Walking<'a>, statement: u16) -> Frame<'a> {
 /// whose subscripts they are.
 fn word_label<'a>(kept: Kept<'a>, source: Source<'_>, array: u16) -> Option<&'a [Form]> {
     match source {
-        Source::Written { statement, .. } => {
-            match kept.family.nodes.get(usize::from(statement))? {
-                Some(node) => Some(node.label.as_slice()),
-                None => None,
-            }
-        }
-        _ => match kept.family.inputs.get(usize::from(array))? {
-            Some(label) => Some(label.as_slice()),
-            None => None,
-        },
+        Source::Written { statement, .. } => instance_label(kept.nodes, statement),
+        _ => label_in(kept.inputs, array),
     }
 }
 

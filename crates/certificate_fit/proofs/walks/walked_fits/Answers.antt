@@ -7,7 +7,7 @@ use Rattle.claims.specs.declared.place.Step.TheVariants.{Key}
 use Rattle.claims.proofs.Found.{decides-later, refused-behind, refused-first}
 use Rattle.affine_program.specs.Parts.{statement_of}
 use Rattle.reuse_paths.specs.WalkSettings.{region_at}
-use Rattle.reuse_paths.specs.Walks.{WalkRegion, region_of}
+use Rattle.reuse_paths.specs.Walks.{WalkRegion, boxed_region}
 use Rattle.certificate_fit.specs.FitClaims.{so_many}
 use Rattle.reuse_paths.specs.WalkViews.{walk_of}
 use Rattle.certificate_fit.specs.WalkFit.{region_fit, row_count}
@@ -17,10 +17,10 @@ pub returns-in_err-all_regions_fit : goal.returns-in_err-all_regions_fit
 returns-in_err-all_regions_fit c =
     let walk = walk_of c.args.walking.now in
     let place = c.args.place.now in
-    let nodes : List (Option WalkRegion) = map (option_map region_of) c.args.nodes.now in
+    let nodes : List (Option WalkRegion) = map (option_map boxed_region) c.args.nodes.now in
     let first : Claim = so_many (place ++ Key (codes "nodes") ∷ []) (length nodes) (length walk.program.statements) in
     let fits : first.statement =
-    length-map c.args.nodes.now (option_map region_of) ∙ c.if-nodes-statements.false ∙ ap length c.statements.ensures.statements ∙ sym (length-map c.args.walking.now.program.now.statements statement_of) in
+    length-map c.args.nodes.now (option_map boxed_region) ∙ c.if-nodes-statements.false ∙ ap length c.statements.ensures.statements ∙ sym (length-map c.args.walking.now.program.now.statements statement_of) in
     let regions = numbered (region_fit walk (place ++ Key (codes "nodes") ∷ [])) 0 nodes in
     let same = ap (λ (p : List Step). numbered (region_fit walk p) 0 nodes) c.in_ok-list.ensures in
     let called : ℕ → List Claim = λ n. so_many (place ++ Key (codes "start") ∷ []) (length c.args.start.now) n ∷ [] in
@@ -34,10 +34,10 @@ pub returns : goal.returns
 returns c =
     let walk = walk_of c.args.walking.now in
     let place = c.args.place.now in
-    let nodes : List (Option WalkRegion) = map (option_map region_of) c.args.nodes.now in
+    let nodes : List (Option WalkRegion) = map (option_map boxed_region) c.args.nodes.now in
     let first : Claim = so_many (place ++ Key (codes "nodes") ∷ []) (length nodes) (length walk.program.statements) in
     let fits : first.statement =
-    length-map c.args.nodes.now (option_map region_of) ∙ c.if-nodes-statements.false ∙ ap length c.statements.ensures.statements ∙ sym (length-map c.args.walking.now.program.now.statements statement_of) in
+    length-map c.args.nodes.now (option_map boxed_region) ∙ c.if-nodes-statements.false ∙ ap length c.statements.ensures.statements ∙ sym (length-map c.args.walking.now.program.now.statements statement_of) in
     let regions = numbered (region_fit walk (place ++ Key (codes "nodes") ∷ [])) 0 nodes in
     let same = ap (λ (p : List Step). numbered (region_fit walk p) 0 nodes) c.in_ok-list.ensures in
     let called : ℕ → List Claim = λ n. so_many (place ++ Key (codes "start") ∷ []) (length c.args.start.now) n ∷ [] in

@@ -1,4 +1,4 @@
-use Rattle.k_partition.proofs.Joints.{partitions-loaded-each, partitions-loaded-sum}
+use Rattle.k_partition.proofs.JointLaws.{partitions-loaded-each, partitions-loaded-sum}
 use Rattle.k_partition.proofs.pebblings.partitions_are_loaded.Goals as goal
 
 pub returns-clause-each : goal.returns-clause-each

@@ -1,4 +1,4 @@
-use Rattle.k_partition.proofs.Joints.{runs-loaded-each, runs-loaded-sum}
+use Rattle.k_partition.proofs.JointLaws.{runs-loaded-each, runs-loaded-sum}
 use Rattle.k_partition.proofs.runs.runs_are_loaded.Goals as goal
 
 pub returns-clause-each : goal.returns-clause-each

@@ -1,4 +1,4 @@
-use Rattle.k_partition.proofs.Joints.{take-events-each, take-events-sum}
+use Rattle.k_partition.proofs.JointLaws.{take-events-each, take-events-sum}
 use Rattle.k_partition.proofs.stretches.points_take_events.Goals as goal
 
 pub returns-clause-each : goal.returns-clause-each

@@ -1,4 +1,4 @@
-use Rattle.k_partition.proofs.Joints.{stretches-hold-labels-each, stretches-hold-labels-sum, stretches-hold-points-each, stretches-hold-points-sum}
+use Rattle.k_partition.proofs.JointLaws.{stretches-hold-labels-each, stretches-hold-labels-sum, stretches-hold-points-each, stretches-hold-points-sum}
 use Rattle.k_partition.proofs.stretches.stretches_are_small.Goals as goal
 
 pub returns-clause-labels_each : goal.returns-clause-labels_each

@@ -3,7 +3,7 @@ use Rattle.std.specs.Prelude.{◌&&◌, ◌≤ℤ◌, ◌<ℤ◌, int_le}
 use Rattle.std.proofs.Math.IntN.{ℤ, pos}
 use Rattle.std.proofs.lemmas.Int.{ints}
 use Rattle.iolb_model.specs.Form.{AffineForm, form_value, are_met}
-use Rattle.base_laws.proofs.Forms.{are_met-says}
+use Rattle.iolb_model.proofs.Forms.{are_met-says}
 use Rattle.base_laws.proofs.Lists.{rest_at}
 use Rattle.plain_graph.proofs.runs.are_met.Goals as goal
 

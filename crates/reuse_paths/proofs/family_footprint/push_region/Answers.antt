@@ -10,6 +10,7 @@ use Rattle.claims.specs.Claims.{AllHold}
 use Rattle.claims.proofs.Found.{IfOk-then}
 use Rattle.dep_quast.proofs.Fits.{depth-few, read-over}
 use Rattle.reuse_paths.specs.declared.family.FamilyNode.{FamilyNode}
+use Rattle.reuse_paths.specs.declared.walk.Region.{Region}
 use Rattle.reuse_paths.specs.Families.{boxed_node, node_region}
 use Rattle.reuse_paths.specs.FamilyPieces.{region_pieces}
 use Rattle.reuse_paths.specs.FewContexts.{few_walk, RegionTakesFit}
@@ -17,7 +18,7 @@ use Rattle.footprint_pieces.specs.Pieces.{PieceFits}
 use Rattle.dep_quast.specs.Trees.{read_of}
 use Rattle.reuse_paths.specs.WalkPieces.{walk_pieces}
 use Rattle.reuse_paths.specs.WalkSettings.{region_context, region_variables}
-use Rattle.reuse_paths.specs.Walks.{WalkRegion, region_of, tree_of_walk}
+use Rattle.reuse_paths.specs.Walks.{WalkRegion, boxed_region, region_of, tree_of_walk}
 use Rattle.reuse_paths.specs.WalkViews.{walk_of}
 use Rattle.reuse_paths.proofs.PiecesFit.{context-begins, walk-fits}
 use Rattle.reuse_paths.proofs.family_footprint.push_region.Goals as goal
@@ -28,14 +29,14 @@ returns-clause-fit c =
     let walk = walk_of c.args.walking.now in
     let parts = c.args.walking.now.program.now in
     let s : ℕ = c.args.statement in
-    let region : WalkRegion = region_of c.in-Some-region.region in
+    let region : WalkRegion = boxed_region c.in-Some-region.region in
     let held : node_region (option_map boxed_node c.args.node.now) ≡ Some region =
     ap (λ held. node_region (option_map boxed_node held)) c.in-Some.is
-    ∙ ap (λ (n : FamilyNode). option_map region_of n.region) (sym c.deref.ensures)
-    ∙ ap (option_map region_of) c.in-Some-region.is in
+    ∙ ap (λ (n : FamilyNode). option_map boxed_region n.region) (sym c.deref.ensures)
+    ∙ ap (option_map boxed_region) c.in-Some-region.is in
     let takes : RegionTakesFit walk s (Some region) = subst (RegionTakesFit walk s) held c.requires.takes in
     let rows : List AffineForm = region_context walk s region.rows in
-    let is : c.in_ok-rows.rows.items ≡ rows = c.in_ok-rows.ensures.rows ∙ ap (region_context walk s) c.as_slice.ensures.value in
+    let is : c.in_ok-rows.rows.items ≡ rows = c.in_ok-rows.ensures.rows ∙ ap (region_context walk s) c.as_slice.ensures.value ∙ ap (λ (r : Region). region_context walk s r.rows.items) c.deref-2.ensures in
     let over : AllOver (region_variables walk s) rows = subst (AllOver (region_variables walk s)) is c.in_ok-rows.ensures.over in
     let few : depth_of walk.program s ≤ NEST_VARIABLES = depth-few parts c.params-params.ensures.kept s (omega (arith, length-map parts.statements statement_of, c.requires.readers.there)) in
     let fits : AllByRecursion (PieceFits walk.program) (walk_pieces walk s rows region.tree) =
@@ -43,5 +44,5 @@ returns-clause-fit c =
     (context-begins walk s c.requires.flat few region.rows c.params-params.ensures.kept.well_formed.assumptions) region.tree takes.1 in
     let all : AllByRecursion (PieceFits walk.program) (region_pieces walk s (node_region (option_map boxed_node c.args.node.now))) =
     subst (λ (r : Option WalkRegion). AllByRecursion (PieceFits walk.program) (region_pieces walk s r)) (sym held) fits in
-    IfOk-then c.push_walk.result (λ _. AllHold (few_walk walk s c.in_ok-place.place c.as_slice-2.result.now (tree_of_walk c.deref-2.result.now)))
+    IfOk-then c.push_walk.result (λ _. AllHold (few_walk walk s c.in_ok-place.place c.as_slice-2.result.now (tree_of_walk c.deref-3.result.now.tree)))
     (λ _. AllByRecursion (PieceFits walk.program) (region_pieces walk s (node_region (option_map boxed_node c.args.node.now)))) c.push_walk.ensures.few (λ _ _. all)

@@ -52,7 +52,10 @@ same_shown-requires-clause-values_over c =
     (read-over c.args.walking.now.program.now c.params-params.ensures.kept (read_of c.args.reader) c.requires.read_fits)
 
 pub same_shown-requires-clause-own_over : goal.same_shown-requires-clause-own_over
-same_shown-requires-clause-own_over c = own-over (walk_of c.args.walking.now) c.args.reader.statement (kept_of c.args.kept) c.requires.aim c.requires.fits
+same_shown-requires-clause-own_over c = (own-over (walk_of c.args.walking.now) c.args.reader.statement (kept_of c.args.kept) c.requires.aim c.requires.fits).0
+
+pub same_shown-requires-clause-own_small : goal.same_shown-requires-clause-own_small
+same_shown-requires-clause-own_small c = (own-over (walk_of c.args.walking.now) c.args.reader.statement (kept_of c.args.kept) c.requires.aim c.requires.fits).1
 
 pub same_shown-requires-clause-one_each : goal.same_shown-requires-clause-one_each
 same_shown-requires-clause-one_each c = (label-fits (walk_of c.args.walking.now) (read_of c.args.reader) (kept_of c.args.kept) c.in-Some.label.now c.requires.aim c.requires.fits c.params-params.ensures.kept.well_formed c.requires.read_fits

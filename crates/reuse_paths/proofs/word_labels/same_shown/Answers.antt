@@ -8,7 +8,7 @@ use Rattle.dep_quast.proofs.Fits.{length-equality_rows}
 use Rattle.dep_quast.specs.OpenLeaves.{form_at}
 use Rattle.reuse_paths.specs.WalkSettings.{WalkSetting, reading_point, region_variables, spot_variables}
 use Rattle.reuse_paths.specs.WalkViews.{walk_of}
-use Rattle.reuse_paths.proofs.FamilyLabels.{own-small, own-within}
+use Rattle.reuse_paths.proofs.FamilyLabels.{own-within}
 use Rattle.reuse_paths.proofs.word_labels.same_shown.Goals as goal
 
 pub equal_rows-requires-clause-other_within : goal.equal_rows-requires-clause-other_within
@@ -16,9 +16,6 @@ equal_rows-requires-clause-other_within c =
     let walk : WalkSetting = walk_of c.args.walking.now in
     subst (λ (n : ℕ). AllByRecursion (λ (form : AffineForm). variables form ≤ n) c.args.own.now) (sym c.region_variables-vars.ensures.variables)
     (own-within (region_variables walk c.args.statement) c.args.own.now c.requires.own_over)
-
-pub equal_rows-requires-clause-other_small : goal.equal_rows-requires-clause-other_small
-equal_rows-requires-clause-other_small c = own-small (region_variables (walk_of c.args.walking.now) c.args.statement) c.args.own.now c.requires.own_over
 
 pub goals_shown-requires : goal.goals_shown-requires
 goals_shown-requires c =

@@ -35,7 +35,10 @@ same_shown-requires-clause-label_over c =
     subst (λ (n : ℕ). AllByRecursion (IsSmallOver n) c.in-Some.label.now) many (label-fits (walk_of c.args.walking.now) c.args.reader.statement c.args.writer (kept_of c.args.kept) c.in-Some.label.now c.requires.aim c.requires.fits c.in-Some.ensures).over
 
 pub same_shown-requires-clause-own_over : goal.same_shown-requires-clause-own_over
-same_shown-requires-clause-own_over c = own-over (walk_of c.args.walking.now) c.args.reader.statement (kept_of c.args.kept) c.requires.aim c.requires.fits
+same_shown-requires-clause-own_over c = (own-over (walk_of c.args.walking.now) c.args.reader.statement (kept_of c.args.kept) c.requires.aim c.requires.fits).0
+
+pub same_shown-requires-clause-own_small : goal.same_shown-requires-clause-own_small
+same_shown-requires-clause-own_small c = (own-over (walk_of c.args.walking.now) c.args.reader.statement (kept_of c.args.kept) c.requires.aim c.requires.fits).1
 
 pub same_shown-requires-clause-one_each : goal.same_shown-requires-clause-one_each
 same_shown-requires-clause-one_each c = (label-fits (walk_of c.args.walking.now) c.args.reader.statement c.args.writer (kept_of c.args.kept) c.in-Some.label.now c.requires.aim c.requires.fits c.in-Some.ensures).each

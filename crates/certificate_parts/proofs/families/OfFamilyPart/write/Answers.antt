@@ -1,7 +1,7 @@
 use Rattle.std.proofs.Common.{map, subst}
 use Rattle.std.specs.Prelude.{option_map}
 use Rattle.base_laws.proofs.Lists.{All-every}
-use Rattle.reuse_paths.specs.Families.{forms_of, boxed_node, family_of}
+use Rattle.reuse_paths.specs.Families.{boxed_forms, boxed_node, family_of}
 use Rattle.reuse_paths.specs.Walks.{tree_of_walk}
 use Rattle.json_parts.specs.Fields.{object_shape}
 use Rattle.json_parts.specs.Shape.{IsReadBack}
@@ -34,7 +34,7 @@ write_object-requires-clause-fit c =
 
 pub returns-clause-read : goal.returns-clause-read
 returns-clause-read c =
-    let inputs = map (option_map forms_of) c.put_part-all.result.value.now.items in
+    let inputs = map (option_map boxed_forms) c.put_part-all.result.value.now.items in
     let nodes = map (option_map boxed_node) c.put_part-rest-2.result.value.now.items in
     family_read (family_of c.args.part.now)
     (rw (

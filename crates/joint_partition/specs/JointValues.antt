@@ -1,0 +1,39 @@
+-- What the value of a joint term's bound says.
+use Rattle.std.specs.Prelude.{List}
+use Rattle.iolb_model.specs.Program.{AffineProgram, IsWellFormed}
+use Rattle.iolb_model.specs.Bound.{StretchNumbers, count_value, partition}
+use Rattle.iolb_model.specs.Footprint.{CostsItsValue}
+use Rattle.claims.specs.Claims.{AllHold}
+use Rattle.claims.specs.declared.place.Step.{Step}
+use Rattle.dep_quast.specs.Tree.{SelectionTree}
+use Rattle.dep_quast.specs.Trees.{RowsAreTrue, RowsFit}
+use Rattle.poly_tree.specs.Poly.{IsLegal, Quotient}
+use Rattle.poly_tree.specs.Printed.{polynomial_of}
+use Rattle.joint_partition.specs.Claims.{joint_claims}
+use Rattle.joint_partition.specs.JointCosts.{JointFits}
+use Rattle.joint_partition.specs.JointCounts.{CountsCredited, CountsImages}
+use Rattle.joint_partition.specs.JointLoads.{HasJointNumbers, joint_footprint}
+use Rattle.joint_partition.specs.JointRuns.{SharesAmongRuns, image_vertices}
+use Rattle.joint_partition.specs.Term.{JointTerm}
+
+-- Polynomials and numbers are those of a joint term's bound: the polynomials are in lowest terms, and count its images and its
+-- credited points.
+pub record IsJointBound (program : AffineProgram) (term : JointTerm) (count credits : Quotient) (numbers : StretchNumbers) : Type 0 where
+  pub legal : IsLegal count
+  pub legal_credits : IsLegal credits
+  pub images : CountsImages program term count
+  pub credited : CountsCredited program term credits
+  pub has : HasJointNumbers term numbers
+
+-- A term whose claims hold, over true source trees, costs the value of its bound in loads of its footprint.
+abbrev pub JointTermsCostTheirValue : Type 0
+JointTermsCostTheirValue = (program : AffineProgram) (trees : List (List SelectionTree)) (term : JointTerm) (place : List Step) (count credits : Quotient) (numbers : StretchNumbers)
+    → IsWellFormed program → RowsFit program 0 trees → RowsAreTrue program 0 trees → JointFits program trees term → AllHold (joint_claims program trees place term)
+    → IsJointBound program term count credits numbers → CostsItsValue program (partition (polynomial_of count) (polynomial_of credits) numbers) (joint_footprint program term)
+
+-- And this cost is shared among runs that compute its images.
+abbrev pub JointTermsShareAmongRuns : Type 0
+JointTermsShareAmongRuns = (program : AffineProgram) (trees : List (List SelectionTree)) (term : JointTerm) (place : List Step) (count credits : Quotient) (numbers : StretchNumbers)
+    → IsWellFormed program → RowsFit program 0 trees → RowsAreTrue program 0 trees → JointFits program trees term → AllHold (joint_claims program trees place term)
+    → IsJointBound program term count credits numbers
+    → SharesAmongRuns program (count_value (polynomial_of count)) (count_value (polynomial_of credits)) numbers (image_vertices program term) (joint_footprint program term)

@@ -1,0 +1,34 @@
+//! What joint terms cost, by the values of their bounds.
+
+ghost use Rattle.joint_partition.specs.JointNumbers.{JointNumbersAreOne, JointNumbersArePositive};
+ghost use Rattle.joint_partition.specs.JointValues.{JointTermsCostTheirValue, JointTermsShareAmongRuns};
+
+use crate::terms::{
+    joint_claims_cost, joint_families_are_sound, joint_groups_are_apart, parts_are_sound,
+};
+use poly_tree::printed_law::terms_have_the_value;
+use reuse_paths::law::walk_pieces_cover;
+use stretch_laws::runs::different_computations_are_few;
+
+/// A law: with the numbers of its bound, and polynomials that count its images and its credited points, a joint term whose claims
+/// hold, over true source trees, costs its value. At all admitted parameter values, of any size, and for every number of red
+/// pebbles, every complete pebbling makes at least as many loads of the term's footprint as the value says; and a red run that
+/// computes a part of the images, and no vertex again, makes as many as the value would say of so many images.
+pub fn joint_terms_cost_their_value()
+    ensures pebblings { JointTermsCostTheirValue }
+    ensures runs { JointTermsShareAmongRuns }
+{
+    parts_are_sound();
+    joint_families_are_sound();
+    joint_groups_are_apart();
+    joint_claims_cost();
+    walk_pieces_cover();
+    terms_have_the_value();
+    different_computations_are_few();
+}
+
+/// A law: a joint term has one list of numbers, and their denominator is positive.
+pub fn joint_numbers_are_one()
+    ensures one { JointNumbersAreOne }
+    ensures positive { JointNumbersArePositive }
+{}
