@@ -1,6 +1,6 @@
 -- Joint terms whose claims hold cost the values of their bounds.
 use Rattle.std.proofs.Common.{◌≡◌, sym, ◌∙◌, subst, ℕ, ◌+◌, ◌-◌, ◌*◌, ◌/◌, ◌<◌, ◌≤◌, cond, List, length, map, arith}
-use Rattle.std.specs.Prelude.{filter, flat_map}
+use Rattle.std.specs.Prelude.{filter}
 use Rattle.std.proofs.Math.IntN.{ℤ}
 use Rattle.std.proofs.lemmas.List.{length-map}
 use Rattle.std.proofs.lemmas.List.Sums.{length-filter}
@@ -13,7 +13,7 @@ use Rattle.iolb_model.specs.Execution.{execution}
 use Rattle.iolb_model.specs.Game.{loads_of, stands_in}
 use Rattle.dep_quast.specs.Tree.{SelectionTree}
 use Rattle.domain_count.proofs.Counted.{counted-value}
-use Rattle.footprint_pieces.specs.Pieces.{AreCovered, FootprintPiece, IsInPieces}
+use Rattle.footprint_pieces.specs.Pieces.{AreCovered, IsInPieces}
 use Rattle.k_partition.specs.ReusedWords.{credited_vertices}
 use Rattle.k_partition.proofs.PartitionBounds.{covered-vertices}
 use Rattle.k_partition.proofs.TermCovers.{summed}
@@ -30,7 +30,8 @@ use Rattle.joint_partition.specs.JointCosts.{JointClaimsCost, JointClaimsCostInR
 use Rattle.joint_partition.specs.JointFits.{JointFamiliesAreSound, JointGroupsAreApart, PartsAreSound}
 use Rattle.joint_partition.specs.JointLoads.{credited_count, image_count, joint_footprint}
 use Rattle.joint_partition.specs.JointRuns.{image_vertices}
-use Rattle.joint_partition.specs.JointValues.{IsJointBound, JointTermsCostTheirValue, JointTermsShareAmongRuns}
+use Rattle.joint_partition.specs.JointPieces.{joint_pieces}
+use Rattle.joint_partition.specs.JointValues.{IsJointBound, JointPiecesCover, JointTermsCostTheirValue, JointTermsShareAmongRuns}
 use Rattle.joint_partition.specs.JointWords.{group_numbers, joint_partition, joint_points, walk_family}
 use Rattle.joint_partition.specs.Term.{JointFamily, JointTerm, credited_nests}
 use Rattle.joint_partition.proofs.ClaimsCost.{holds-families, sound}
@@ -40,17 +41,14 @@ use Rattle.joint_partition.proofs.JointLoads.{points-many, points-there}
 -- ---- the pieces of the families cover the footprint
 
 module _ (program : AffineProgram) (trees : List (List SelectionTree)) (term : JointTerm) where
-  abbrev pieces : List FootprintPiece
-  pieces = flat_map (family_pieces program trees term) term.families
-
   joint-covered : ((parameters : List ℤ) → IsAdmitted program parameters → (family : JointFamily) → Member family term.families → (vertex : ℕ)
       → Member vertex (words_in (walk_family program term parameters family)) → IsInPieces program parameters (family_pieces program trees term family) vertex)
-      → AreCovered program (joint_footprint program term) pieces
+      → AreCovered program (joint_footprint program term) (joint_pieces program trees term)
   joint-covered inside parameters vertex admitted stands =
       let of_group = Member-flat_map_from group_words vertex (joint_partition program term parameters).groups (standing-member (joint_footprint program term parameters) vertex stands) in
       let number = Member-map_from (group_at program trees term parameters (inside parameters admitted)) of_group.0 (group_numbers term) of_group.1.0 in
       let own = in-family program trees term parameters (inside parameters admitted) number.0 vertex (subst (λ (group : List WalkFamily). Member vertex (group_words group)) number.1.1 of_group.1.1) in
-      among-in program parameters (family_pieces program trees term own.0) pieces vertex
+      among-in program parameters (family_pieces program trees term own.0) (joint_pieces program trees term) vertex
       (λ piece m. Member-flat_map (family_pieces program trees term) own.0 term.families piece own.1.0 m) own.1.1.1
 
 -- ---- values
@@ -79,21 +77,23 @@ module _ (program : AffineProgram) (term : JointTerm) (count credits : Quotient)
 
 -- ---- the laws
 
+pub joint-pieces-cover : PartsAreSound → JointFamiliesAreSound → JointGroupsAreApart → WalkPiecesCover → JointPiecesCover
+joint-pieces-cover of_parts of_families of_groups cover program trees term place formed trees-fit trees-true fits holds =
+    joint-covered program trees term
+    (λ parameters admitted. words-inside cover program trees term place parameters formed trees-fit trees-true
+    (sound of_parts of_families of_groups program trees term place formed trees-fit trees-true fits holds).parts admitted 0 term.families fits.groups.families
+    (holds-families of_parts of_families of_groups program trees term place formed trees-fit trees-true fits holds))
+
 pub joint-terms-cost-their-value : PartsAreSound → JointFamiliesAreSound → JointGroupsAreApart → WalkPiecesCover → TermsHaveTheValue → JointClaimsCost → JointTermsCostTheirValue
 joint-terms-cost-their-value of_parts of_families of_groups cover value cost program trees term place count credits numbers formed trees-fit trees-true fits holds bound = record {
-  vertices = λ values admitted. covered-vertices program values (joint_footprint program term) (pieces program trees term) admitted covered;
+  vertices = λ values admitted. covered-vertices program values (joint_footprint program term) (joint_pieces program trees term) admitted
+      (joint-pieces-cover of_parts of_families of_groups cover program trees term place formed trees-fit trees-true fits holds);
   loaded = λ values s moves admitted some game.
       less (events_of numbers s) (points_of numbers s) (image_count term values) (count_value (polynomial_of count) values) (credited_count term values) (count_value (polynomial_of credits) values)
       (loads_of (joint_footprint program term values) moves)
       (count-is program term count credits numbers bound value values admitted) (credits-are program term count credits numbers bound value values admitted)
       (cost program trees term place numbers values s moves formed trees-fit trees-true fits holds bound.has admitted game);
-} where
-  covered : AreCovered program (joint_footprint program term) (pieces program trees term)
-  covered =
-      joint-covered program trees term
-      (λ parameters admitted. words-inside cover program trees term place parameters formed trees-fit trees-true
-      (sound of_parts of_families of_groups program trees term place formed trees-fit trees-true fits holds).parts admitted 0 term.families fits.groups.families
-      (holds-families of_parts of_families of_groups program trees term place formed trees-fit trees-true fits holds))
+}
 
 pub joint-terms-share-among-runs : PartsAreSound → JointFamiliesAreSound → JointGroupsAreApart → TermsHaveTheValue → DifferentComputationsAreFew → JointClaimsCostInRuns
     → JointTermsShareAmongRuns

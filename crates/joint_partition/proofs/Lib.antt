@@ -2,6 +2,12 @@ pub mod SplitEnds
 pub mod Images
 pub mod PartWalks
 pub mod WaySettings
+pub mod FamiliesFit
+pub mod FewRows
+pub mod PlainSettings
+pub mod GroupLists
+pub mod FromTold
+pub mod FromFew
 pub mod Indexed
 pub mod ScaledForms
 pub mod StartsFound
@@ -22,3 +28,4 @@ pub mod LowestTerms
 pub mod GroupNumbers
 pub mod JointCounts
 pub mod JointValues
+pub mod PointsFit

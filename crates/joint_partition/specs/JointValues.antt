@@ -7,12 +7,14 @@ use Rattle.claims.specs.Claims.{AllHold}
 use Rattle.claims.specs.declared.place.Step.{Step}
 use Rattle.dep_quast.specs.Tree.{SelectionTree}
 use Rattle.dep_quast.specs.Trees.{RowsAreTrue, RowsFit}
+use Rattle.footprint_pieces.specs.Pieces.{AreCovered}
 use Rattle.poly_tree.specs.Poly.{IsLegal, Quotient}
 use Rattle.poly_tree.specs.Printed.{polynomial_of}
 use Rattle.joint_partition.specs.Claims.{joint_claims}
 use Rattle.joint_partition.specs.JointCosts.{JointFits}
 use Rattle.joint_partition.specs.JointCounts.{CountsCredited, CountsImages}
 use Rattle.joint_partition.specs.JointLoads.{HasJointNumbers, joint_footprint}
+use Rattle.joint_partition.specs.JointPieces.{joint_pieces}
 use Rattle.joint_partition.specs.JointRuns.{SharesAmongRuns, image_vertices}
 use Rattle.joint_partition.specs.Term.{JointTerm}
 
@@ -37,3 +39,8 @@ JointTermsShareAmongRuns = (program : AffineProgram) (trees : List (List Selecti
     → IsWellFormed program → RowsFit program 0 trees → RowsAreTrue program 0 trees → JointFits program trees term → AllHold (joint_claims program trees place term)
     → IsJointBound program term count credits numbers
     → SharesAmongRuns program (count_value (polynomial_of count)) (count_value (polynomial_of credits)) numbers (image_vertices program term) (joint_footprint program term)
+
+-- The pieces of a term whose claims hold, over true source trees, cover its footprint.
+abbrev pub JointPiecesCover : Type 0
+JointPiecesCover = (program : AffineProgram) (trees : List (List SelectionTree)) (term : JointTerm) (place : List Step) → IsWellFormed program → RowsFit program 0 trees
+    → RowsAreTrue program 0 trees → JointFits program trees term → AllHold (joint_claims program trees place term) → AreCovered program (joint_footprint program term) (joint_pieces program trees term)

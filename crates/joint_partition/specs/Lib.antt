@@ -13,3 +13,5 @@ pub mod JointCounts
 pub mod JointRuns
 pub mod JointValues
 pub mod FamiliesFit
+pub mod JointPieces
+pub mod GroupSystems

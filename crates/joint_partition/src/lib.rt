@@ -2,14 +2,18 @@
 //! walks may share words within groups.
 #![tactic(auto)]
 
+mod checker;
+mod claims_checker;
 pub mod counts;
 mod cover_shown;
 mod distinct_shown;
 mod families_shown;
+mod groups_apart;
 pub mod limits;
 mod numbers;
 mod part_shown;
 mod parts_counted;
+mod pieces;
 mod places;
 mod points_checker;
 pub mod small;
@@ -20,9 +24,13 @@ mod starts_shown;
 mod term;
 pub mod terms;
 pub mod values;
+mod walk_pushed;
 mod way_walks;
 mod ways_shown;
 
+pub use checker::check_joint;
+pub use claims_checker::check_claims;
 pub use numbers::joint_bound_of;
+pub use pieces::joint_pieces;
 pub use points_checker::check_points;
 pub use term::{Joint, JointFamily, Labeling, Part, Split, Start, Way};

@@ -1,7 +1,7 @@
 //! What joint terms cost, by the values of their bounds.
 
 ghost use Rattle.joint_partition.specs.JointNumbers.{JointNumbersAreOne, JointNumbersArePositive};
-ghost use Rattle.joint_partition.specs.JointValues.{JointTermsCostTheirValue, JointTermsShareAmongRuns};
+ghost use Rattle.joint_partition.specs.JointValues.{JointPiecesCover, JointTermsCostTheirValue, JointTermsShareAmongRuns};
 
 use crate::terms::{
     joint_claims_cost, joint_families_are_sound, joint_groups_are_apart, parts_are_sound,
@@ -9,6 +9,16 @@ use crate::terms::{
 use poly_tree::printed_law::terms_have_the_value;
 use reuse_paths::law::walk_pieces_cover;
 use stretch_laws::runs::different_computations_are_few;
+
+/// A law: the pieces of a joint term whose claims hold, over true source trees, cover its footprint.
+pub fn joint_pieces_cover()
+    ensures { JointPiecesCover }
+{
+    parts_are_sound();
+    joint_families_are_sound();
+    joint_groups_are_apart();
+    walk_pieces_cover();
+}
 
 /// A law: with the numbers of its bound, and polynomials that count its images and its credited points, a joint term whose claims
 /// hold, over true source trees, costs its value. At all admitted parameter values, of any size, and for every number of red

@@ -1,7 +1,6 @@
-use Rattle.std.proofs.Common.{◌≡◌, ◌∙◌, sym, ap, subst, ℕ, ◌+◌, ◌<◌, List, length, map}
+use Rattle.std.proofs.Common.{◌≡◌, ◌∙◌, sym, ap, subst, ℕ, ◌+◌, ◌<◌, length, map}
 use Rattle.std.specs.List.{AllByRecursion}
 use Rattle.base_laws.proofs.Lists.{All-weaken}
-use Rattle.iolb_model.specs.Form.{AffineForm}
 use Rattle.affine_form.specs.Form.{IsSmallForm}
 use Rattle.affine_form.specs.Rows.{BoundsFit, IsSmallOver}
 use Rattle.affine_program.specs.Domain.{depth_of}

@@ -1,4 +1,4 @@
-use Rattle.std.proofs.Common.{◌≡◌, ◌∙◌, sym, ap, List, length, map}
+use Rattle.std.proofs.Common.{◌≡◌, ◌∙◌, sym, ap, List, length}
 use Rattle.std.specs.Global.{Global}
 use Rattle.std.specs.Prelude.{Box, Option, Vec, option_map}
 use Rattle.std.proofs.lemmas.List.{length-map}
