@@ -1,0 +1,5 @@
+pub mod OneTo
+pub mod Splits
+pub mod Parts
+pub mod Families
+pub mod Joint
