@@ -17,7 +17,7 @@ bin/iolb bin/iolb-explain &: $(sources)
 	@room=$$(mktemp -d) && trap 'rm -rf "$$room"' EXIT && mkdir "$$room/crates" \
 	&& for it in $(parts); do mkdir "$$room/crates/$$it" && (cd crates/$$it && cp -r $$(ls | grep -vx -e out -e must-fail -e README.md) "$$room/crates/$$it") || exit 1; done \
 	&& cp HANDLES "$$room" && for it in $(parts); do grep "^$$it:" crates.txt; done > "$$room/crates.txt" \
-	&& (cd "$$room" && rt ci 2>&1) | tee bin/build.log | awk '/^rt: [a-z0-9_]+ proved$$/ { print ++done " of $(words $(parts)): " $$2; fflush() }' \
+	&& (cd "$$room" && rt ci 2>&1) | tee bin/build.log | awk '/^rt: [a-z0-9_]+ (proved$$|is kept:)/ { print ++done " of $(words $(parts)): " $$2; fflush() }' \
 	&& tail -n 1 bin/build.log | grep -q ' passed, 0 failed$$' || { tail -n 40 bin/build.log; exit 1; } \
 	&& cp "$$room/crates/iolb_cli/out/iolb_cli" bin/iolb && cp "$$room/crates/iolb_explain/out/iolb_explain" bin/iolb-explain
 	@echo "bin/iolb and bin/iolb-explain are built"
