@@ -6,7 +6,7 @@ use Rattle.std.proofs.Math.Nat.{mul-le-mul, pow-le-pow_left, pow-le-pow_right}
 use Rattle.std.proofs.Math.Seq.{take-suc}
 use Rattle.std.proofs.lemmas.Bool.{cases_eq, eq-eqb, ne_eqb}
 use Rattle.std.proofs.lemmas.List.FromFn.{map-range_with_len_more}
-use Rattle.std.proofs.lemmas.List.Sums.{sum_by-cons, sum_by-le-sum_by, sum_by-take-le, sum_by_more_le_part, get_or-le-sum_by}
+use Rattle.std.proofs.lemmas.List.Sums.{sum_by-cons, sum_by-le-sum_by, sum_by-take-le, sum_by_more_le_part}
 use Rattle.std.proofs.lemmas.Nat.{pow-add}
 use Rattle.base_laws.proofs.Lists.{All-take, add-one}
 use Rattle.uniform_cover.specs.Products.{product_by}
@@ -158,10 +158,6 @@ pub next-light : (families : List Family) (number i : ℕ) (family : Family) →
     → sum_by (weight_where number) (take i families) + family.weight ≤ weights families
 next-light families number i family below is =
     omega (arith, sum_by_more_le_part (weight_where number) (λ (f : Family). f.weight) families i family below (λ f. kept (f.group == number) f.weight), ap (λ (f : Family). f.weight) is)
-
--- a family has no more weight than all
-pub weight-light : (families : List Family) (i : ℕ) (family : Family) → i < length families → family ≡ get_or families i family → family.weight ≤ weights families
-weight-light families i family below is = omega (arith, get_or-le-sum_by (λ (f : Family). f.weight) families i family below, ap (λ (f : Family). f.weight) is)
 
 -- ---- one more of a loop
 

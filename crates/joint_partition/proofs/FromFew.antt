@@ -1,6 +1,6 @@
 -- What walks take that fit, and that their rows are few: as `reuse_paths` has it in its own proofs.
 use Rattle.std.proofs.Common.{ℕ, suc, List, [], ◌∷◌, ◌++◌}
-use Rattle.std.specs.Prelude.{Option, Some, None, codes}
+use Rattle.std.specs.Prelude.{codes}
 use Rattle.iolb_model.specs.Form.{AffineForm}
 use Rattle.iolb_model.specs.Program.{AffineProgram}
 use Rattle.claims.specs.Claims.{Claim, AllHold}
@@ -11,14 +11,14 @@ use Rattle.dep_quast.specs.Context.{ReadOf, no_row}
 use Rattle.dep_quast.specs.Tree.{SelectionTree}
 use Rattle.reuse_paths.specs.EntryClaims.{leaf_claims}
 use Rattle.reuse_paths.specs.Families.{CreditedNest, FamilyForms}
-use Rattle.reuse_paths.specs.FamilyClaims.{family_setting, region_walk}
-use Rattle.reuse_paths.specs.FewContexts.{few_leaves, few_walk, few_region}
+use Rattle.reuse_paths.specs.FamilyClaims.{family_setting}
+use Rattle.reuse_paths.specs.FewContexts.{few_leaves, few_walk}
 use Rattle.reuse_paths.specs.LeafClaims.{LeafClaim}
 use Rattle.dep_quast.specs.OpenLeaves.{OpenLeaf}
 use Rattle.dep_quast.specs.Trees.{read_of}
 use Rattle.reuse_paths.specs.WalkClaims.{leaves_at, leaves_claims, walk_claims}
-use Rattle.reuse_paths.specs.WalkSettings.{WalkSetting, region_context, region_variables}
-use Rattle.reuse_paths.specs.Walks.{WalkTree, take, test, WalkRegion}
+use Rattle.reuse_paths.specs.WalkSettings.{WalkSetting, region_variables}
+use Rattle.reuse_paths.specs.Walks.{WalkTree, take, test}
 
 leaves-few : (walk : WalkSetting) (reader : ReadOf) (place other : List Step) (rows : List AffineForm) (i j : ℕ) (leaves : List OpenLeaf) (entries : List LeafClaim)
     → AllHold (leaves_claims 15 walk reader place rows i leaves entries) → AllHold (few_leaves other rows j leaves entries)
@@ -44,9 +44,3 @@ module _ (program : AffineProgram) (trees : List (List SelectionTree)) (credits 
       AllHold-append (few_walk plainly s (other ++ Key (codes "yes") ∷ []) (rows ++ form ∷ []) above) (few_walk plainly s (other ++ Key (codes "no") ∷ []) (rows ++ no_row (region_variables plainly s) form ∷ []) below)
       (walk-few reader s (place ++ Key (codes "yes") ∷ []) (other ++ Key (codes "yes") ∷ []) (rows ++ form ∷ []) above (AllHold-left yes nay h))
       (walk-few reader s (place ++ Key (codes "no") ∷ []) (other ++ Key (codes "no") ∷ []) (rows ++ no_row (region_variables walk s) form ∷ []) below (AllHold-right yes nay h))
-
-  pub region-few : (reader : List AffineForm) (s : ℕ) (place other : List Step) (region : Option WalkRegion) → AllHold (region_walk (family_setting program trees credits family reader) place s region)
-      → AllHold (few_region plainly other s region)
-  region-few reader s place other None h = tt
-  region-few reader s place other (Some region) h =
-      walk-few reader s (place ++ Index s ∷ Key (codes "region") ∷ Key (codes "tree") ∷ []) (other ++ Index s ∷ Key (codes "region") ∷ Key (codes "tree") ∷ []) (region_context plainly s region.rows) region.tree h

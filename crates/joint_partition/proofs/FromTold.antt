@@ -6,10 +6,10 @@ use Rattle.iolb_model.specs.Program.{AffineProgram}
 use Rattle.dep_quast.specs.Tree.{SelectionTree}
 use Rattle.reuse_paths.specs.Families.{CreditedNest, FamilyForms}
 use Rattle.reuse_paths.specs.FamilyClaims.{family_setting}
-use Rattle.reuse_paths.specs.FewContexts.{RegionTakesFit, TakesFit}
+use Rattle.reuse_paths.specs.FewContexts.{TakesFit}
 use Rattle.dep_quast.specs.Trees.{read_of}
 use Rattle.reuse_paths.specs.WalkClaims.{leaves_at}
-use Rattle.reuse_paths.specs.WalkFits.{RegionFits, RegionRowsFit, WalkFits}
+use Rattle.reuse_paths.specs.WalkFits.{RegionRowsFit, WalkFits}
 use Rattle.reuse_paths.specs.WalkSettings.{WalkSetting}
 use Rattle.reuse_paths.specs.Walks.{WalkTree, take, test, WalkRegion}
 use Rattle.reuse_paths.proofs.FoundLeaves.{entries-many}
@@ -31,7 +31,3 @@ module _ (program : AffineProgram) (trees : List (List SelectionTree)) (credits 
   takes-fit reader s (take read entries) fits =
       record { read_fits = fits.read_fits; there = fits.there; one_each = sym (entries-many (with_credits reader) (read_of s read) (leaves_at plain (read_of s read)) entries fits.entries_fit) }
   takes-fit reader s (test form above below) fits = (fits.0, takes-fit reader s above fits.1, takes-fit reader s below fits.2)
-
-  pub region-takes : (reader : List AffineForm) (s : ℕ) (region : Option WalkRegion) → RegionFits (with_credits reader) s region → RegionTakesFit plain s region
-  region-takes reader s None fits = tt
-  region-takes reader s (Some region) fits = (fits.0, takes-fit reader s region.tree fits.1)

@@ -10,6 +10,7 @@ use Rattle.certificate_parts.specs.Multipliers.{all_multipliers_shape}
 use Rattle.k_partition.specs.Term.{CreditTerm}
 use Rattle.joint_partition.specs.declared.limits.TheConstants.{JOINT_CREDITS, PARTS}
 use Rattle.joint_partition.specs.declared.term.Joint.{Joint}
+use Rattle.joint_partition.specs.Limits.{IsSmallJoint}
 use Rattle.joint_partition.specs.Splits.{SplitTree}
 use Rattle.joint_partition.specs.Term.{JointFamily, JointTerm}
 use Rattle.joint_partition.specs.View.{family_of, joint_of, split_of}
@@ -92,3 +93,7 @@ written_joint joint = record {
 
 abbrev pub joint_link : Link WrittenJoint Joint
 joint_link = other_link written_joint (λ said joint. IsJoint said (joint_of joint))
+
+-- A term that is one that is written within the limits of texts is within the limits.
+abbrev pub JointsAreWithinLimits : Type 0
+JointsAreWithinLimits = (said : WrittenJoint) (joint : Joint) → IsJoint said (joint_of joint) → joint_shape.IsWithin said → IsSmallJoint joint

@@ -25,8 +25,10 @@ macro_rules! put_list {
 
 mod families;
 mod joint;
+mod law;
 mod one_to;
 mod parts;
 mod splits;
 
 pub use joint::OfJoint;
+pub use law::joints_are_within_limits;
