@@ -15,6 +15,13 @@ pub struct Words {
     pub point: Vec<Affine>,
 }
 
+/// A term that is proposed, with the words that it counts.
+#[derive(Drop)]
+pub struct Proposed<T> {
+    pub term: T,
+    pub words: Vec<Words>,
+}
+
 /// The rows of two lists of words together: those of the first, those of the second without its assumptions, and that their
 /// points are equal.
 fn shared(alloc: Global, facts: &Facts, first: &Words, second: &Words) -> Result<Rows, Memory> {

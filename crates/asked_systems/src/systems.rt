@@ -19,6 +19,8 @@ pub enum Says {
     Region,
     Walk,
     Same,
+    Image,
+    Split,
 }
 
 /// How many rows in a row say the same.
@@ -50,6 +52,8 @@ impl Says {
             Says::Region => "the region",
             Says::Walk => "a test of the walk",
             Says::Same => "both are one word",
+            Says::Image => "both have one image",
+            Says::Split => "a test of the split",
         }
     }
 }

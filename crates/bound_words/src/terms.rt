@@ -4,10 +4,22 @@ use crate::leading::{write_greatest, write_worth};
 use crate::reads::Source;
 use affine_form::Memory;
 use iolb_check::{Term, Value};
+use joint_partition::{Joint, JointFamily, Part};
 use k_partition::PartitionBound;
 use plain_pages::Page;
 use poly_tree::Poly;
 use wavefront::{Cold, Wavefront};
+
+/// Writes the families of a joint term: the group of each, and how many labels a word has in it.
+fn write_families(page: &mut Page, families: &[JointFamily]) -> Result<(), Memory> {
+    for (number, family) in families.iter().enumerate() {
+        let (group, labels) = (family.group, family.labels.len());
+        page.line(format!(in page.alloc();
+            "    family {number}, in group {group}; labels of a word at most: {labels}"
+        )?.as_str())?;
+    }
+    Ok(())
+}
 
 impl Source<'_> {
     /// Writes a polynomial of the parameters.
@@ -28,12 +40,17 @@ impl Source<'_> {
         Ok(())
     }
 
-    /// Writes the numbers of a partition term's stretches.
-    fn write_stretches(self, page: &mut Page, bound: &PartitionBound) -> Result<(), Memory> {
+    /// Writes the numbers of a term's stretches, which compute what this word says.
+    fn write_stretches(
+        self,
+        page: &mut Page,
+        points: &str,
+        bound: &PartitionBound,
+    ) -> Result<(), Memory> {
         let (a, b, q) = (bound.a, bound.b, bound.q);
         let (den, num, m) = (bound.den, bound.num, bound.m);
         page.line(format!(in page.alloc();
-            "    a stretch with T = {a}*S + {b} loads of them computes at most U of these instances,"
+            "    a stretch with T = {a}*S + {b} loads of them computes at most U of these {points},"
         )?.as_str())?;
         page.line(format!(in page.alloc();
             "    the greatest U with {den}*U^{q} <= {num}*(S + T)^{m}: T for each U of them but the last,"
@@ -57,7 +74,32 @@ impl Source<'_> {
         page.text("    ")?;
         self.write_statement(page, statement)?;
         page.line("")?;
-        self.write_stretches(page, bound)
+        self.write_stretches(page, "instances", bound)
+    }
+
+    /// Writes the parts of a joint term, each with its statement.
+    fn write_parts(self, page: &mut Page, parts: &[Part]) -> Result<(), Memory> {
+        for (number, part) in parts.iter().enumerate() {
+            page.text(format!(in page.alloc(); "    part {number}: ")?.as_str())?;
+            self.write_statement(page, part.statement)?;
+            page.line("")?;
+        }
+        Ok(())
+    }
+
+    /// Writes what a joint term is worth, and why.
+    fn write_joint(
+        self,
+        page: &mut Page,
+        joint: &Joint,
+        bound: &PartitionBound,
+    ) -> Result<(), Memory> {
+        page.text("  loads of words that ")?;
+        self.write_poly(page, &bound.count)?;
+        page.line(" images of instances use:")?;
+        self.write_parts(page, joint.parts.as_slice())?;
+        write_families(page, joint.families.as_slice())?;
+        self.write_stretches(page, "images", bound)
     }
 
     /// Writes what a wavefront term is worth, and why.
@@ -93,6 +135,7 @@ impl Source<'_> {
     ) -> Result<(), Memory> {
         match (term, value) {
             (Term::Cold(cold), Value::Cold(count)) => self.write_cold(page, cold, count),
+            (Term::Joint(joint), Value::Joint(bound)) => self.write_joint(page, joint, bound),
             (Term::Partition(partition), Value::Partition(bound)) => {
                 self.write_partition(page, partition.statement, bound)
             }

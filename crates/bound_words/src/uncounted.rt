@@ -4,40 +4,49 @@ use crate::reads::Source;
 use affine_form::Memory;
 use dep_quast::Quast;
 use iolb_check::{Branch, Certificate, Term};
+use joint_partition::JointFamily;
 use plain_pages::Page;
-use reuse_paths::Family;
+
+/// Whether there is a label for the number of a thing.
+fn is_labelled<T>(labels: &[Option<T>], number: usize) -> bool {
+    matches!(labels.get(number), Some(Some(_)))
+}
 
 impl Source<'_> {
-    /// Whether a family has a label for the cells of an array, or for the instances of a statement that writes it.
-    fn has_label(self, family: &Family, array: u16) -> bool {
-        if matches!(
-            family.inputs.as_slice().get(usize::from(array)),
-            Some(Some(_))
-        ) {
+    /// Whether there is a label for the cells of an array, or for the instances of a statement that writes it.
+    fn has_label<C, N>(self, inputs: &[Option<C>], nodes: &[Option<N>], array: u16) -> bool {
+        if is_labelled(inputs, usize::from(array)) {
             return true;
         }
-        for (statement, node) in self
-            .program
-            .statements()
-            .iter()
-            .zip(family.nodes.as_slice())
-        {
-            if statement.writes.array == array && node.is_some() {
+        for (number, statement) in self.program.statements().iter().enumerate() {
+            if statement.writes.array == array && is_labelled(nodes, number) {
                 return true;
             }
         }
         false
     }
 
+    /// Whether a family of a joint term has such a label in one of its labelings.
+    fn is_word(self, family: &JointFamily, array: u16) -> bool {
+        family.labels.as_slice().iter().any(|own| self.has_label(
+            own.inputs.as_slice(),
+            own.nodes.as_slice(),
+            array,
+        ))
+    }
+
     /// Whether a term counts words of an array: inputs that are read, words of its families, or words that its user reads.
     fn counts(self, term: &Term, array: u16) -> bool {
         match term {
             Term::Cold(cold) => self.array_read(cold.statement, cold.read) == Some(array),
-            Term::Partition(partition) => partition
+            Term::Joint(joint) => joint
                 .families
                 .as_slice()
                 .iter()
-                .any(|family| self.has_label(family, array)),
+                .any(|family| self.is_word(family, array)),
+            Term::Partition(partition) => partition.families.as_slice().iter().any(
+                |own| self.has_label(own.inputs.as_slice(), own.nodes.as_slice(), array),
+            ),
             Term::Wavefront(front) => {
                 self.array_read(front.user.statement, front.read) == Some(array)
             }

@@ -36,7 +36,7 @@ use Rattle.certificate_fit.proofs.WalkParts.{walk-fits, region-fits}
 
 -- ---- labels
 
-label-is : (size vars : ℕ) (place : List Step) (label : List AffineForm) → AreSmall label → AllHold (label_fit size vars place label) → IsLabel size vars label
+pub label-is : (size vars : ℕ) (place : List Step) (label : List AffineForm) → AreSmall label → AllHold (label_fit size vars place label) → IsLabel size vars label
 label-is size vars place label small h = record { each = h.0; over = forms-over vars place 0 label small h.1 }
 
 module _ (program : AffineProgram) (size : ℕ) (place : List Step) where
@@ -47,7 +47,7 @@ module _ (program : AffineProgram) (size : ℕ) (place : List Step) where
   follow : (i : ℕ) (array : Array) (arrays : List Array) → Follow i (array ∷ arrays) → Follow (suc i) arrays
   follow i array arrays from k = ap (slice_get program.arrays) (suc-moved i k) ∙ from (suc k)
 
-  cell-labels : (i : ℕ) (arrays : List Array) (labels : List (Option (List AffineForm))) → Follow i arrays → length labels ≡ length arrays
+  pub cell-labels : (i : ℕ) (arrays : List Array) (labels : List (Option (List AffineForm))) → Follow i arrays → length labels ≡ length arrays
       → AllByRecursion IsSmallLabel labels → AllHold (numbered (input_fit program size place) i labels) → AreCellLabels program size arrays labels
   cell-labels i [] [] from many small h = tt
   cell-labels i [] (label ∷ labels) from many small h = absurd (omega (arith, many))
@@ -65,7 +65,7 @@ module _ (program : AffineProgram) (size : ℕ) (place : List Step) where
 -- ---- families
 
 -- what holds of the rows of a set
-set-below : (depth count least : ℕ) (set : List ℕ) → count ≡ depth → RisesBelow depth least set → AllByRecursion (λ (row : ℕ). row < count) set
+pub set-below : (depth count least : ℕ) (set : List ℕ) → count ≡ depth → RisesBelow depth least set → AllByRecursion (λ (row : ℕ). row < count) set
 set-below depth count least [] e h = tt
 set-below depth count least (row ∷ set) e h = (omega (arith, e, h.0.1), set-below depth count (suc row) set e h.1)
 
@@ -115,7 +115,7 @@ module _ (program : AffineProgram) (trees : List (List SelectionTree)) (fit : Al
         let size : ℕ = length family.set in
         let vars : ℕ = length program.parameters + depth_of program statement in
         let walk : WalkSetting = family_setting program trees credits family family.start_label in
-        let inputs : List Claim = inputs_fit program (place ++ Key (codes "inputs") ∷ []) family in
+        let inputs : List Claim = inputs_fit program (place ++ Key (codes "inputs") ∷ []) (length family.set) family.inputs in
         let nodes : List Claim = nodes_fit program trees credits (place ++ Key (codes "nodes") ∷ []) family in
         let set : List Claim = set_fit (depth_of program statement) (place ++ Key (codes "set") ∷ []) family.set in
         let start : List Claim = start_fit program trees statement credits (place ++ Key (codes "start") ∷ []) family in

@@ -32,6 +32,20 @@ input_fit program size place array None = []
 input_fit program size place array (Some label) =
     label_fit size (length program.parameters + subscripts_of (slice_get program.arrays array)) (place ++ Index array ∷ []) label
 
+-- those of all arrays' cells, one or none for each
+abbrev pub inputs_fit : AffineProgram → List Step → ℕ → List (Option (List AffineForm)) → List Claim
+inputs_fit program place size labels = so_many place (length labels) (length program.arrays) ∷ numbered (input_fit program size place) 0 labels
+
+-- that of a statement's instances, where they have one, over the parameters and the loop values
+abbrev pub instance_fit : AffineProgram → ℕ → List Step → ℕ → Option (List AffineForm) → List Claim
+instance_fit program size place statement None = []
+instance_fit program size place statement (Some label) =
+    label_fit size (length program.parameters + depth_of program statement) (place ++ Index statement ∷ []) label
+
+-- those of all statements' instances, one or none for each
+abbrev pub instances_fit : AffineProgram → List Step → ℕ → List (Option (List AffineForm)) → List Claim
+instances_fit program place size labels = so_many place (length labels) (length program.statements) ∷ numbered (instance_fit program size place) 0 labels
+
 -- ---- families
 
 -- a node of a statement: the label of its instances, over the parameters and the loop values, and the region
@@ -60,11 +74,6 @@ start_fit program trees statement credits place family =
     label_fit (length family.set) (length program.parameters + depth_of program statement) (place ++ Key (codes "label") ∷ []) family.start_label
     ++ walk_fit (family_setting program trees credits family family.start_label) statement (place ++ Key (codes "tree") ∷ []) family.start
 
--- the labels of the arrays' cells, one or none for each array
-abbrev pub inputs_fit : AffineProgram → List Step → FamilyForms → List Claim
-inputs_fit program place family =
-    so_many place (length family.inputs) (length program.arrays) ∷ numbered (input_fit program (length family.set) place) 0 family.inputs
-
 -- what it says of the statements, one node or none for each
 abbrev pub nodes_fit : AffineProgram → List (List SelectionTree) → List CreditedNest → List Step → FamilyForms → List Claim
 nodes_fit program trees credits place family =
@@ -73,7 +82,7 @@ nodes_fit program trees credits place family =
 -- A family of counted instances of a statement, its members in the order of their keys.
 abbrev pub family_fit : AffineProgram → List (List SelectionTree) → ℕ → List CreditedNest → List Step → FamilyForms → List Claim
 family_fit program trees statement credits place family =
-    inputs_fit program (place ++ Key (codes "inputs") ∷ []) family
+    inputs_fit program (place ++ Key (codes "inputs") ∷ []) (length family.set) family.inputs
     ++ (nodes_fit program trees credits (place ++ Key (codes "nodes") ∷ []) family
     ++ (set_fit (depth_of program statement) (place ++ Key (codes "set") ∷ []) family.set
     ++ start_fit program trees statement credits (place ++ Key (codes "start") ∷ []) family))

@@ -1,19 +1,20 @@
 //! Whether families of walks fit.
 #![tactic(auto, using(claims::proofs::Found::in_a_row))]
 
-ghost use Rattle.std.specs.Prelude.{◌≡◌, ◌+◌, ◌<◌, ◌≤◌, ◌↔◌, ◌∷◌, [], ◌++◌, length, map, option_map, slice_get, IsTrue, codes};
+ghost use Rattle.std.specs.Prelude.{◌≡◌, ◌+◌, ◌<◌, ◌≤◌, ◌↔◌, ◌∷◌, [], ◌++◌, length, map, option_map, IsTrue, codes};
 ghost use Rattle.affine_program.specs.Domain.{depth_of};
 ghost use Rattle.affine_program.specs.Parts.{meaning};
 ghost use Rattle.claims.specs.Claims.{numbered, Decides};
 ghost use Rattle.claims.specs.declared.place.Step.TheVariants.{Key};
-ghost use Rattle.certificate_fit.specs.FamilyFit.{RisesBelow, families_fit, family_fit, input_fit, inputs_fit, label_fit, node_fit, node_fit_at, nodes_fit, set_fit, start_fit, subscripts_of};
-ghost use Rattle.reuse_paths.specs.Families.{boxed_node, credit_of, family_of, boxed_forms, node_of};
+ghost use Rattle.certificate_fit.specs.FamilyFit.{RisesBelow, families_fit, family_fit, label_fit, node_fit, node_fit_at, nodes_fit, set_fit, start_fit};
+ghost use Rattle.reuse_paths.specs.Families.{boxed_node, credit_of, family_of, node_of};
 ghost use Rattle.reuse_paths.specs.FamilyClaims.{family_setting};
 ghost use Rattle.dep_quast.specs.Quasts.{trees_of};
 ghost use Rattle.reuse_paths.specs.WalkViews.{walk_of};
 
 use crate::counts::loops_around;
-use crate::lists::{all_forms_fit_in, misfit};
+use crate::labels::{all_inputs_fit, instance_variables, label_fits};
+use crate::lists::misfit;
 use crate::walks::{region_fits, walk_fits};
 use affine_form::Form;
 use affine_program::Program;
@@ -21,96 +22,6 @@ use claims::{ObjectKey, Place, Refused, Step};
 use domain_count::Nest;
 use reuse_paths::{Aim, Credit, Family, FamilyNode, Kept, Nodes, Quasts, Walking};
 use std::alloc::Global;
-
-// ---- labels
-
-/// Whether what is said fits of a label, one step further in: of so many forms over so many variables.
-fn label_fits(
-    alloc: Global,
-    place: &Place,
-    step: Step,
-    size: usize,
-    variables: u128,
-    label: &[Form],
-) -> Result<(), Refused>
-    ensures { Decides (label_fit size variables (place.now ++ step ∷ []) label.now) result }
-{
-    if label.len() != size {
-        return Err(misfit(alloc, place, step));
-    }
-    all_forms_fit_in(alloc, place, step, variables, label)?;
-    Ok(())
-}
-
-/// How many subscripts an array has: none if it isn't there.
-fn subscripts_of(program: &Program, array: usize) -> usize
-    ensures { result ≡ subscripts_of (slice_get (meaning program.now).arrays array) }
-{
-    match program.arrays().get(array) {
-        Some((_, rank)) => usize::from(*rank),
-        None => 0,
-    }
-}
-
-/// How many variables a label of the cells of an array has: the parameters and the subscripts.
-fn cell_variables(program: &Program, array: usize) -> u128
-    ensures { result ≡ length (meaning program.now).parameters + subscripts_of (slice_get (meaning program.now).arrays array) }
-{
-    program.params().len() as u128 + subscripts_of(program, array) as u128
-}
-
-/// Whether what is said fits of the label of an array's cells, if they have one, in a list at this place.
-fn input_fits(
-    alloc: Global,
-    program: &Program,
-    list: &Place,
-    size: usize,
-    array: usize,
-    label: &Option<Box<Vec<Form>>>,
-) -> Result<(), Refused>
-    ensures { Decides (input_fit (meaning program.now) size list.now array (option_map boxed_forms label.now)) result }
-{
-    let Some(label) = label else {
-        return Ok(());
-    };
-    let variables = cell_variables(program, array);
-    let step = Step::Index(array as u64);
-    label_fits(alloc, list, step, size, variables, label.as_slice())
-}
-
-/// Whether what is said fits of the labels of the arrays' cells, in a list at this place.
-fn all_labels_fit(
-    alloc: Global,
-    program: &Program,
-    list: &Place,
-    size: usize,
-    labels: &[Option<Box<Vec<Form>>>],
-) -> Result<(), Refused>
-    ensures { Decides (numbered (input_fit (meaning program.now) size list.now) 0 (map (option_map boxed_forms) labels.now)) result }
-{
-    for (array, label) in labels.iter().enumerate() {
-        input_fits(alloc, program, list, size, array, label)?;
-    }
-    Ok(())
-}
-
-/// Whether what is said fits of the labels that a family gives to the arrays' cells.
-fn all_inputs_fit(
-    alloc: Global,
-    program: &Program,
-    place: &Place,
-    family: &Family,
-) -> Result<(), Refused>
-    ensures { Decides (inputs_fit (meaning program.now) (place.now ++ Key (codes "inputs") ∷ []) (family_of family.now)) result }
-{
-    let labels = family.inputs.as_slice();
-    if labels.len() != program.arrays().len() {
-        return Err(misfit(alloc, place, Step::Key(ObjectKey("inputs"))));
-    }
-    let list = place.within(alloc, Step::Key(ObjectKey("inputs")))?;
-    all_labels_fit(alloc, program, &list, family.set.coords().len(), labels)?;
-    Ok(())
-}
 
 // ---- walks
 
@@ -138,13 +49,6 @@ fn walking_from<'a>(
         }),
         condition: 1,
     }
-}
-
-/// How many variables a label of the instances of a statement has: the parameters and the loop values.
-fn instance_variables(program: &Program, statement: u16) -> u128
-    ensures { result ≡ length (meaning program.now).parameters + depth_of (meaning program.now) statement }
-{
-    program.params().len() as u128 + loops_around(program, statement) as u128
 }
 
 /// Whether what is said fits of the label of a statement's instances, at the key `label`.
@@ -287,7 +191,7 @@ fn rises_below(depth: usize, set: &[u8]) -> bool
 }
 
 /// Whether a set, the list with the key `set`, rises and is below the depth.
-fn set_fits(alloc: Global, place: &Place, depth: usize, set: &[u8]) -> Result<(), Refused>
+pub fn set_fits(alloc: Global, place: &Place, depth: usize, set: &[u8]) -> Result<(), Refused>
     ensures { Decides (set_fit depth (place.now ++ Key (codes "set") ∷ []) set.now) result }
 {
     if rises_below(depth, set) {
@@ -351,7 +255,8 @@ fn family_fits(
 ) -> Result<(), Refused>
     ensures { Decides (family_fit (meaning program.now) (trees_of quasts.now) statement (map credit_of credits.now) place.now (family_of family.now)) result }
 {
-    all_inputs_fit(alloc, program, place, family)?;
+    let size = family.set.coords().len();
+    all_inputs_fit(alloc, program, place, size, family.inputs.as_slice())?;
     all_nodes_fit(alloc, program, quasts, credits, place, family)?;
     counted_fits(alloc, program, quasts, statement, credits, place, family)?;
     Ok(())

@@ -8,6 +8,7 @@ pub mod credits;
 pub mod entries;
 pub mod families;
 pub mod family_limits;
+pub mod labels;
 pub mod lists;
 pub mod part_limits;
 mod sources;

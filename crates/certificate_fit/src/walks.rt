@@ -148,7 +148,7 @@ fn region_variables(walking: &Walking, statement: u16) -> u128
 }
 
 /// Whether what is said fits of a walk from the instances of a statement, at this place.
-pub(crate) fn walk_fits(
+pub fn walk_fits(
     alloc: Global,
     walking: &Walking,
     statement: u16,
@@ -179,7 +179,7 @@ pub(crate) fn walk_fits(
 }
 
 /// Whether what is said fits of a statement's region, if it has one, at this place.
-pub(crate) fn region_fits(
+pub fn region_fits(
     alloc: Global,
     walking: &Walking,
     statement: u16,

@@ -12,8 +12,10 @@ use Rattle.certificate_fit.specs.Limits.{IsNestedTree, IsSmallTree}
 use Rattle.serde_json.specs.Data.{Data, Members, no_members, member, object, depth, members_depth}
 use Rattle.serde_json.specs.Written.{has_float, members_have_float}
 use Rattle.reuse_paths.specs.LeafClaims.{LeafClaim, no_point, stops, is_credited, goes_on, arrives}
+use Rattle.json_parts.specs.Shape.{Shape}
 use Rattle.json_parts.specs.Written.{list, whole, natural}
 use Rattle.certificate_parts.specs.Forms.{form_data, forms_shape}
+use Rattle.certificate_parts.specs.Inverses.{inverse_shape}
 use Rattle.certificate_parts.specs.Matrices.{rows_of, row_data, matrix_data}
 use Rattle.certificate_parts.specs.Multipliers.{weights_data, multipliers_data, all_multipliers_shape}
 use Rattle.certificate_parts.specs.Nests.{pair_data, nest_shape}
@@ -43,6 +45,11 @@ plain-map {A = A} n f xs h = plain-list n (map f xs) (all xs) where
   all [] = tt
   all (y ∷ ys) = (h y, all ys)
 
+-- the parts of a list, each within its limits
+pub plain-all : {A : Type 0} (n : ℕ) (shape : Shape A) → ((a : A) → shape.IsWithin a → IsPlain n (shape.data_of a)) → (all : List A) → AllByRecursion shape.IsWithin all → AllByRecursion (IsPlain n) (map shape.data_of all)
+plain-all n shape one [] small = tt
+plain-all n shape one (a ∷ all) small = (one a small.0, plain-all n shape one all small.1)
+
 pub plain-none : (n : ℕ) → ArePlain n no_members
 plain-none n = record { deep = omega arith; exact = refl }
 
@@ -71,7 +78,7 @@ plain-form form = plain-map 0 whole (form.coefficients ++ form.constant ∷ []) 
 pub plain-forms : (forms : List AffineForm) → IsPlain 2 (forms_shape.data_of forms)
 plain-forms forms = plain-map 1 form_data forms plain-form
 
-plain-multipliers : (shown : FarkasMultipliers) → IsPlain 1 (multipliers_data shown)
+pub plain-multipliers : (shown : FarkasMultipliers) → IsPlain 1 (multipliers_data shown)
 plain-multipliers shown = plain-list 0 (natural shown.scale ∷ natural shown.rest ∷ weights_data shown.weights) (plain-natural shown.scale, (plain-natural shown.rest, weights shown.weights)) where
   weights : (ws : List (ℕ × ℕ)) → AllByRecursion (IsPlain 0) (weights_data ws)
   weights [] = tt
@@ -82,6 +89,10 @@ plain-all_multipliers all = plain-map 1 multipliers_data all plain-multipliers
 
 pub plain-matrix : (matrix : IntegerMatrix) → IsPlain 2 (matrix_data matrix)
 plain-matrix matrix = plain-map 1 row_data (rows_of matrix.rows matrix.columns matrix.cells) (λ row. plain-map 0 whole row plain-whole)
+
+pub plain-inverse : (inverse : IntegerMatrix × ℕ) → IsPlain 3 (inverse_shape.data_of inverse)
+unfolding inverse_shape
+plain-inverse inverse = plain-object 2 _ (plain-member 2 2 _ _ _ (omega arith) (plain-matrix inverse.0) (plain-member 0 2 _ _ _ (omega arith) (plain-natural inverse.1) (plain-none 2)))
 
 pub plain-nest : (nest : List (AffineForm × AffineForm)) → IsPlain 3 (nest_shape.data_of nest)
 plain-nest nest = plain-map 2 pair_data nest (λ pair. plain-list 1 (form_data pair.0 ∷ form_data pair.1 ∷ []) (plain-form pair.0, (plain-form pair.1, tt)))

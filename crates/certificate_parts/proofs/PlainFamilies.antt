@@ -17,14 +17,14 @@ use Rattle.certificate_parts.proofs.PlainWalks.{plain-walk, plain-node}
 
 -- ---- families
 
-plain-set : (set : List ℕ) → IsPlain 1 (list (map natural set))
+pub plain-set : (set : List ℕ) → IsPlain 1 (list (map natural set))
 plain-set set = plain-map 0 natural set plain-natural
 
 plain-label : (label : Option (List AffineForm)) → IsPlain 2 (or_null forms_shape.data_of label)
 plain-label None = record { deep = omega arith; exact = refl }
 plain-label (Some label) = plain-forms label
 
-plain-labels : (labels : List (Option (List AffineForm))) → IsPlain 3 (list (map (or_null forms_shape.data_of) labels))
+pub plain-labels : (labels : List (Option (List AffineForm))) → IsPlain 3 (list (map (or_null forms_shape.data_of) labels))
 plain-labels labels = plain-map 2 (or_null forms_shape.data_of) labels plain-label
 
 plain-family_node : (node : Option NodeForms) → IsSmallFamilyNode node → IsPlain 23 (or_null node_shape.data_of node)

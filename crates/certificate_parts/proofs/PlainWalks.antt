@@ -31,7 +31,7 @@ pub plain-node : (node : Option WalkRegion) → IsSmallNode node → IsPlain 22 
 plain-node None h = record { deep = omega arith; exact = refl }
 plain-node (Some region) h = plain-region region h
 
-plain-nodes : (nodes : List (Option WalkRegion)) → AllByRecursion IsSmallNode nodes → AllByRecursion (IsPlain 22) (map (or_null region_shape.data_of) nodes)
+pub plain-nodes : (nodes : List (Option WalkRegion)) → AllByRecursion IsSmallNode nodes → AllByRecursion (IsPlain 22) (map (or_null region_shape.data_of) nodes)
 plain-nodes [] h = tt
 plain-nodes (node ∷ nodes) h = (plain-node node h.0, plain-nodes nodes h.1)
 

@@ -1,3 +1,1 @@
 pub mod EntryLaws
-pub mod ColdParts
-pub mod BranchLaws

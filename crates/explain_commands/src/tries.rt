@@ -16,7 +16,7 @@ fn are_cold(terms: &[Term]) -> bool {
     for term in terms {
         match term {
             Term::Cold(_) => {}
-            Term::Partition(_) | Term::Wavefront(_) => return false,
+            Term::Joint(_) | Term::Partition(_) | Term::Wavefront(_) => return false,
         }
     }
     true
@@ -37,13 +37,22 @@ fn failed_term<'a>(terms: &'a [Term], failed: &FailedCondition) -> Option<&'a Te
     terms.get(index_at(failed.place.steps(), 3)?)
 }
 
-/// What kind of term is meant, and of which statement.
-fn term_words(term: &Term) -> (&'static str, u16) {
-    match term {
-        Term::Cold(cold) => ("a cold term", cold.statement),
-        Term::Partition(partition) => ("a partition term", partition.statement),
-        Term::Wavefront(front) => ("a wavefront term", front.user.statement),
-    }
+/// Writes what kind of term is meant, and of which statement.
+fn write_kind(page: &mut Page, term: &Term) -> Result<(), Memory> {
+    let alloc = page.alloc();
+    let words = match term {
+        Term::Cold(cold) => format!(in alloc; "a cold term of statement {}", cold.statement)?,
+        Term::Joint(_) => format!(in alloc; "a joint term")?,
+        Term::Partition(own) => format!(in alloc;
+            "a partition term of statement {}",
+            own.statement
+        )?,
+        Term::Wavefront(front) => {
+            format!(in alloc; "a wavefront term of statement {}", front.user.statement)?
+        }
+    };
+    page.text(words.as_str())?;
+    Ok(())
 }
 
 /// Writes which condition a branch that was tried fails, and in which term.
@@ -51,10 +60,7 @@ fn write_failure(page: &mut Page, terms: &[Term], failed: &FailedCondition) -> R
     let alloc = page.alloc();
     page.text("tried, and not shown: ")?;
     match failed_term(terms, failed) {
-        Some(term) => {
-            let (kind, statement) = term_words(term);
-            page.text(format!(in alloc; "{kind} of statement {statement}")?.as_str())?;
-        }
+        Some(term) => write_kind(page, term)?,
         None => page.text("a branch of several terms")?,
     }
     let number = failed.condition;

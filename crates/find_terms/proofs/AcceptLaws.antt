@@ -28,12 +28,12 @@ use Rattle.iolb_check.specs.TermFit.{branch_fit}
 use Rattle.find_terms.specs.Accepted.{HasPlainTree, OpeningsAreWithinLimits, OpeningsMeetConditions}
 use Rattle.find_terms.specs.Openings.{AreNamed, AreRising, FindsOpening, IsFirstOpening, IsOpeningBranch, IsOpeningTerm, opening_outline}
 use Rattle.find_terms.specs.Proposed.{IsSmallOpening}
-use Rattle.cold_terms.specs.Held.{IsHeldCold, IsPlaced, array_read, reader_of}
+use Rattle.projective_bounds.specs.HeldColds.{IsHeldCold, IsPlaced, array_read, reader_of}
 use Rattle.cold_terms.specs.Outline.{ColdOutline, outline_in}
 use Rattle.find_terms.specs.Shown.{IsShownCold}
 use Rattle.find_terms.proofs.NameLaws.{none-named}
 use Rattle.find_terms.proofs.PlainLaws.{blank-not, shown-over}
-use Rattle.cold_terms.proofs.BranchLaws.{made, branch-fits, branch-holds}
+use Rattle.projective_bounds.proofs.ColdBranches.{made, branch-fits, branch-holds}
 
 -- numbers that rise are different
 rising-distinct : (ns : List ℕ) → AreRising ns → IsDistinct nat_eq ns

@@ -24,7 +24,7 @@ use Rattle.find_terms.specs.Counted.{AreCounted}
 use Rattle.cold_terms.specs.Outline.{OutlineFits, bare, outline_in}
 use Rattle.find_terms.specs.Shown.{IsShownCold}
 use Rattle.cold_terms.proofs.EntryLaws.{closed-short, hold-closed}
-use Rattle.cold_terms.proofs.ColdParts.{cold-held, ClaimParts, parts-of, IsUndone, IsInside, IsClosedBy}
+use Rattle.projective_bounds.proofs.ColdParts.{cold-held, ClaimParts, parts-of, IsUndone, IsInside, IsClosedBy}
 use Rattle.affine_program.proofs.Domains.{length-domain_rows}
 
 -- ---- what is found makes a term that is shown

@@ -25,7 +25,7 @@ use Rattle.certificate_fit.specs.PartFit.{polynomials_fit, sum_at}
 use Rattle.domain_count.specs.Made.{AreMade, CheckPasses}
 use Rattle.domain_count.specs.Ranges.{AreRight, IsFirstNotShown}
 use Rattle.find_terms.specs.Counted.{AreCounted, AreRanges, FindsRanges, HasShortRange}
-use Rattle.cold_terms.specs.Held.{ArePolynomials}
+use Rattle.projective_bounds.specs.HeldColds.{ArePolynomials}
 
 -- ---- ranges
 

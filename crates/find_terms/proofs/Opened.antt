@@ -23,7 +23,7 @@ use Rattle.iolb_check.specs.Conditions.{conditions}
 use Rattle.iolb_check.specs.Limits.{CertificateParts, IsWithinLimits}
 use Rattle.find_terms.specs.Accepted.{HasPlainTree, OpeningsAreWithinLimits, OpeningsMeetConditions, alone}
 use Rattle.find_terms.specs.Openings.{FindsOpening, IsFirstOpening, IsOpeningBranch}
-use Rattle.cold_terms.specs.Held.{reader_of}
+use Rattle.projective_bounds.specs.HeldColds.{reader_of}
 use Rattle.find_terms.specs.AcceptedCertificates.{IsAccepted, IsRefused}
 use Rattle.find_terms.specs.declared.accepted.Accepted.{Accepted}
 use Rattle.find_terms.specs.Opened.{BeginsWithOpening, HasTreesFor, NamesBranch, NamesTerm}
@@ -156,6 +156,7 @@ names-few slice (terms.Cold cold ∷ all) reach = (
 )
 names-few slice (terms.Partition partition ∷ all) reach = (tt, names-few slice all reach)
 names-few slice (terms.Wavefront front ∷ all) reach = (tt, names-few slice all reach)
+names-few slice (terms.Joint joint ∷ all) reach = (tt, names-few slice all reach)
 
 pub own-named : (slice : Bor (List Term)) (branch : Branch) → slice.now ≡ branch.terms.items → NamesBranch (Few slice) (Some branch)
 own-named slice branch is = subst (λ (all : List Term). AllByRecursion (NamesTerm (Few slice)) all) is (names-few slice slice.now (λ reader h. h))

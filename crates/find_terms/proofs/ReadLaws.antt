@@ -12,7 +12,7 @@ use Rattle.affine_program.specs.Domain.{depth_of}
 use Rattle.wavefront.specs.declared.cold.Cold.{Cold}
 use Rattle.find_terms.specs.Found.{FindsFirst, HasNoEarlier}
 use Rattle.find_terms.specs.Openings.{AreRising, AreOpenings, HasPlainRead, IsEarlierRead, IsFirstOpening, IsPlainRead}
-use Rattle.cold_terms.specs.Held.{array_read}
+use Rattle.projective_bounds.specs.HeldColds.{array_read}
 use Rattle.iolb_model.specs.declared.limits.TheConstants.{OPENING_TERMS}
 
 -- ---- the order of reads

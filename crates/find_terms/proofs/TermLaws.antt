@@ -15,7 +15,7 @@ use Rattle.wavefront.specs.declared.cold.Cold.{Cold}
 use Rattle.wavefront.specs.View.{term_of}
 use Rattle.find_terms.specs.Found.{FarFits, FindsRead, FindsTerm, HasNoEarlier, IsSmallNest}
 use Rattle.find_terms.specs.Openings.{AreNamed, HasOpeningOutline, IsEarlierRead, IsFirstOpening, IsOpeningTerm, IsPlainRead, named_loops, named_nest, opening_outline}
-use Rattle.cold_terms.specs.Held.{array_read, reader_of}
+use Rattle.projective_bounds.specs.HeldColds.{array_read, reader_of}
 use Rattle.cold_terms.specs.Outline.{ColdOutline, OutlineFits, outline_in}
 use Rattle.find_terms.specs.Shown.{FindsCold, IsShownCold}
 use Rattle.find_terms.proofs.NameLaws.{named-many, named-same}

@@ -18,13 +18,14 @@ use Rattle.iolb_check.specs.Claims.{CertificateClaim, claim_of_branch}
 use Rattle.iolb_check.specs.Conditions.{conditions}
 use Rattle.iolb_check.specs.Limits.{IsWithinLimits}
 use Rattle.find_terms.specs.Openings.{IsOpeningBranch}
-use Rattle.cold_terms.specs.Held.{reader_of}
+use Rattle.projective_bounds.specs.HeldColds.{reader_of}
 
 -- the tree of a cold term's read is plain
 abbrev pub HasPlainTree : AffineProgram → List (List SelectionTree) → Term → Type 0
 HasPlainTree program trees (terms.Cold cold) = IsPlain program (reader_of cold) (tree_for trees (reader_of cold))
 HasPlainTree program trees (terms.Partition partition) = ⊥
 HasPlainTree program trees (terms.Wavefront front) = ⊥
+HasPlainTree program trees (terms.Joint joint) = ⊥
 
 -- the certificate of these trees and this branch alone
 abbrev pub alone : List (List SelectionTree) → Branch → CertificateClaim

@@ -10,7 +10,7 @@ use Rattle.flow_deps.specs.declared.wanted.Wanted.{Wanted}
 use Rattle.flow_deps.specs.declared.wanted.Wanted.TheVariants.{Short}
 use Rattle.flow_deps.specs.Answers.{IsAsShort}
 use Rattle.int_sets.specs.ShortList.{HasShortList}
-use Rattle.cold_terms.specs.Held.{ArePolynomials}
+use Rattle.projective_bounds.specs.HeldColds.{ArePolynomials}
 use Rattle.domain_count.specs.Made.{AreMade}
 use Rattle.domain_count.specs.Claims.{SumClaims}
 use Rattle.domain_count.specs.Count.{AreShownBelow, IsCount, bounds_at, range_goal, rows_before}

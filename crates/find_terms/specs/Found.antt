@@ -14,7 +14,7 @@ use Rattle.find_terms.specs.declared.nests.SoFar.{SoFar}
 use Rattle.cold_terms.specs.declared.outline.Outline.{Outline}
 use Rattle.cold_terms.specs.Outline.{OutlineFits, outline_of}
 use Rattle.find_terms.specs.Openings.{AreNamed, HasOpeningOutline, IsEarlierRead, IsFirstOpening, IsOpeningTerm, IsPlainRead, NestSoFar, opening_outline, width}
-use Rattle.cold_terms.specs.Held.{array_read, reader_of}
+use Rattle.projective_bounds.specs.HeldColds.{array_read, reader_of}
 
 -- ---- loops
 

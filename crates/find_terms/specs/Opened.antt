@@ -8,7 +8,7 @@ use Rattle.iolb_check.specs.declared.term.Term.{Term}
 use Rattle.iolb_check.specs.declared.term.Term.TheVariants as terms
 use Rattle.iolb_check.specs.declared.term.Branch.{Branch}
 use Rattle.find_terms.specs.Openings.{IsOpeningBranch, IsPlainRead}
-use Rattle.cold_terms.specs.Held.{reader_of}
+use Rattle.projective_bounds.specs.HeldColds.{reader_of}
 use Rattle.find_terms.specs.Trees.{HasTrees, is_named}
 use Rattle.find_terms.specs.declared.trees.Scope.{Scope}
 
@@ -22,6 +22,7 @@ abbrev pub NamesTerm : Scope → Term → Type 0
 NamesTerm scope (terms.Cold cold) = is_named scope (reader_of cold) ≡ true
 NamesTerm scope (terms.Partition partition) = ⊤
 NamesTerm scope (terms.Wavefront front) = ⊤
+NamesTerm scope (terms.Joint joint) = ⊤
 
 -- each read of a branch is named
 abbrev pub NamesBranch : Scope → Option Branch → Type 0

@@ -17,7 +17,7 @@ use Rattle.wavefront.specs.declared.cold.Cold.{Cold}
 use Rattle.wavefront.specs.View.{term_of}
 use Rattle.iolb_check.specs.declared.term.Term.TheVariants as terms
 use Rattle.iolb_check.specs.declared.term.Branch.{Branch}
-use Rattle.cold_terms.specs.Held.{array_read, reader_of}
+use Rattle.projective_bounds.specs.HeldColds.{array_read, reader_of}
 use Rattle.cold_terms.specs.Outline.{ColdOutline, outline_in}
 use Rattle.find_terms.specs.Shown.{IsShownCold}
 use Rattle.iolb_model.specs.declared.limits.TheConstants.{OPENING_TERMS}

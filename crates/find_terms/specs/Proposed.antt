@@ -18,6 +18,7 @@ abbrev pub IsAsProposed : Term → Type 0
 IsAsProposed (terms.Cold cold) = ⊤
 IsAsProposed (terms.Partition partition) = HasBestStretches partition
 IsAsProposed (terms.Wavefront front) = ⊤
+IsAsProposed (terms.Joint joint) = ⊤
 
 -- A branch that is proposed has a term, is within the limits of branches, and its partition terms have such stretches.
 pub record IsProposal (branch : Branch) : Type 0 where

@@ -16,7 +16,7 @@ use Rattle.wavefront.specs.ColdPieces.{leaves_of}
 use Rattle.wavefront.specs.Loads.{ColdFits}
 use Rattle.wavefront.specs.View.{term_of}
 use Rattle.iolb_check.specs.Limits.{IsSmallCold}
-use Rattle.cold_terms.specs.Held.{ArePolynomials}
+use Rattle.projective_bounds.specs.HeldColds.{ArePolynomials}
 use Rattle.cold_terms.specs.Entries.{AreEntries, IsEntryAsShort}
 use Rattle.cold_terms.specs.Outline.{ColdOutline, outline_in}
 

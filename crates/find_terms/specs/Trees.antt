@@ -17,6 +17,7 @@ abbrev pub is_of_read : ReadOf → Term → Bool
 is_of_read reader (terms.Cold cold) = cold.statement == reader.statement && cold.read == reader.read
 is_of_read reader (terms.Partition partition) = false
 is_of_read reader (terms.Wavefront front) = false
+is_of_read reader (terms.Joint joint) = false
 
 -- whether a read has the tree that is found, whatever its array is
 abbrev pub is_named : Scope → ReadOf → Bool

@@ -6,7 +6,7 @@ ghost use Rattle.affine_program.specs.Parts.{meaning};
 ghost use Rattle.flow_deps.specs.Answers.{Answers, HasNoShort, following};
 ghost use Rattle.claims.specs.Shown.{IsFew};
 ghost use Rattle.domain_count.specs.Count.{rows_before, range_goal};
-ghost use Rattle.cold_terms.specs.Held.{ArePolynomials};
+ghost use Rattle.projective_bounds.specs.HeldColds.{ArePolynomials};
 ghost use Rattle.find_terms.specs.Counted.{FindsCount, FindsRanges};
 ghost use Rattle.iolb_model.specs.declared.limits.TheConstants.{NEST_VARIABLES, PARAMETERS};
 

@@ -5,6 +5,7 @@
 mod accepted;
 mod counted;
 mod filling;
+mod gathering;
 mod growing;
 pub mod law;
 mod making;

@@ -11,11 +11,11 @@ use crate::filling::filled;
 use crate::outlines::opening_outline;
 use affine_form::Memory;
 use affine_program::Program;
-use cold_terms::cold_branch;
 use dep_quast::reader::{Reader, reference};
 use flow_deps::{Wanted, plain};
 use iolb_check::Branch;
 use iolb_model::limits;
+use projective_bounds::cold_branch;
 use std::alloc::Global;
 use wavefront::Cold;
 

@@ -7,13 +7,13 @@ ghost use Rattle.iolb_check.specs.Limits.{IsSmallBranch, IsSmallPartition, IsSma
 ghost use Rattle.find_terms.specs.Openings.{FindsOpening};
 ghost use Rattle.find_terms.specs.Proposed.{HasBestStretches, IsAsProposed, IsProposal, IsSmallOpening};
 
+use crate::gathering::proposals;
 use crate::openings::opening;
 use affine_form::Memory;
 use affine_program::Program;
 use iolb_check::{Branch, Certificate, Term};
 use k_partition::{Partition, weight_of};
 use projective_bounds::stretch_for;
-use proposals::{Proposal, ProposedTerm, proposals};
 use reuse_paths::Quasts;
 use std::alloc::Global;
 use wavefront::Cold;
@@ -49,7 +49,7 @@ pub fn candidates(
     Ok(ProposedBranches { opening, proposals })
 }
 
-/// The proposals as branches, without those of cold terms alone that are no more than the opening branch has.
+/// The proposals, without those of cold terms alone that are no more than the opening branch has.
 fn proposed_branches(
     alloc: Global,
     program: &Program,
@@ -67,15 +67,14 @@ fn proposed_branches(
     Ok(branches)
 }
 
-/// A proposal as a branch, where it is one that is answered.
+/// A proposal, where it is one that is answered.
 fn proposed_branch(
     alloc: Global,
-    proposal: Proposal,
+    branch: Branch,
     opening: &Option<Branch>,
 ) -> Result<Option<Branch>, Memory>
     ensures { IfOk result (λ found. IfSome found IsProposal) }
 {
-    let branch = branch_of(alloc, proposal)?;
     if branch.terms.is_empty() || is_no_more(&branch, opening) {
         return Ok(None);
     }
@@ -129,20 +128,6 @@ fn are_as_proposed(terms: &[Term]) -> bool
     true
 }
 
-/// A proposal as a branch.
-fn branch_of(alloc: Global, proposal: Proposal) -> Result<Branch, Memory> {
-    let mut terms = Vec::new(alloc);
-    for term in proposal.terms {
-        terms.push(match term {
-            ProposedTerm::Cold(term) => Term::Cold(term),
-            ProposedTerm::Partition(term) => Term::Partition(term),
-            ProposedTerm::Wavefront(term) => Term::Wavefront(term),
-        })?;
-    }
-    let disjoint = proposal.disjoint;
-    Ok(Branch { terms, disjoint })
-}
-
 /// Whether a branch has a cold term of this read.
 fn has_cold(branch: &Branch, cold: &Cold) -> bool {
     for term in branch.terms.as_slice() {
@@ -163,7 +148,8 @@ fn is_no_more(branch: &Branch, opening: &Option<Branch>) -> bool {
     for term in branch.terms.as_slice() {
         match term {
             Term::Cold(cold) if has_cold(opening, cold) => {}
-            Term::Cold(_) | Term::Partition(_) | Term::Wavefront(_) => return false,
+            Term::Cold(_) | Term::Partition(_) | Term::Wavefront(_) | Term::Joint(_) =>
+                return false,
         }
     }
     branch.terms.len() <= opening.terms.len()

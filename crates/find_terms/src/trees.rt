@@ -45,7 +45,7 @@ fn is_of(term: &Term, reader: Reader) -> bool
 {
     match term {
         Term::Cold(cold) => cold.statement == reader.statement && cold.read == reader.read,
-        Term::Partition(_) | Term::Wavefront(_) => false,
+        Term::Partition(_) | Term::Wavefront(_) | Term::Joint(_) => false,
     }
 }
 

@@ -31,7 +31,7 @@ shared-many program (piece ∷ first) second = omega (
   shared-many program first second,
 )
 
-lists-many : (program : AffineProgram) (pieces : List FootprintPiece) (lists : List (List FootprintPiece))
+pub lists-many : (program : AffineProgram) (pieces : List FootprintPiece) (lists : List (List FootprintPiece))
     → length (systems_with_lists program pieces lists) ≡ length (same_in_lists (targets_of pieces) (map targets_of lists))
 lists-many program pieces [] = refl
 lists-many program pieces (list ∷ lists) = omega (

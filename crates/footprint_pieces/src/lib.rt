@@ -9,4 +9,4 @@ mod target_pairs;
 
 pub use disjoint::{check_disjoint, disjoint_pieces_are_apart, later_shown, lists_shown};
 pub use piece::{Piece, Target};
-pub use target_pairs::has_pairs;
+pub use target_pairs::{has_pairs, pairs_left};

@@ -21,13 +21,13 @@ fn left_of_lists(lists: &[Vec<Target>], many: usize) -> Option<usize>
     let mut left = many;
     for (i, targets) in lists.iter().enumerate() {
         let (_before, later) = lists.split_at(i + 1);
-        left = left_of_later(targets.as_slice(), later, left)?;
+        left = pairs_left(targets.as_slice(), later, left)?;
     }
     Some(left)
 }
 
-/// How many are left where each pair of one of the targets and the same of the lists takes one.
-fn left_of_later(targets: &[Target], lists: &[Vec<Target>], many: usize) -> Option<usize>
+/// How many of so many are left where each pair of one of the targets and the same of the lists takes one, if there are enough.
+pub fn pairs_left(targets: &[Target], lists: &[Vec<Target>], many: usize) -> Option<usize>
     ensures { MatchOption result (many < length (same_in_lists targets.now (map items_of lists.now))) (λ left. left + length (same_in_lists targets.now (map items_of lists.now)) ≡ many) }
 {
     let mut left = many;

@@ -12,7 +12,7 @@ pub struct Condition {
 
 /// When the condition of this number holds.
 fn condition_holds(number: u64) -> Option<&'static str>
-    ensures there { IsSome result ↔ ((1 ≤ number) × (number ≤ 24)) }
+    ensures there { IsSome result ↔ ((1 ≤ number) × (number ≤ 25)) }
     ensures text { IfSome result (λ text. slice_get condition_texts (number - 1) ≡ Some text.now) }
 {
     Some(match number {
@@ -34,7 +34,7 @@ fn condition_holds(number: u64) -> Option<&'static str>
         11 =>
             "the read is of an input at each point: each leaf of the read's tree is one without an earlier write, or has no point",
         12 =>
-            "different points have different words: the matrix times the coefficients of the nest's variables is the scale times the identity",
+            "different points have different words or images: the matrix times the coefficients of the variables is the scale times the identity",
         13 =>
             "the start label fixes what its set says: the coefficients of the loops are the scale times the rows of `matrix` in the set",
         14 => "the word at the other end of a step has the label of the reader",
@@ -42,7 +42,8 @@ fn condition_holds(number: u64) -> Option<&'static str>
             "at each leaf a walk ends at an input or at a credited nest, or goes on in a region of the source, or has no point",
         16 => "`inverse` times `matrix` is the identity",
         17 => "each coordinate is fixed by sets whose weights are q or more together",
-        18 => "in shape \"sum\" no two families have a word in common",
+        18 =>
+            "no two families have a word in common: in shape \"sum\" all families, in a joint term those of different groups",
         19 =>
             "the word is what the user reads: at each leaf the source that is named, or an input where none is, or there is no point",
         20 => "a walk from the vertex arrives at the source",
@@ -50,13 +51,15 @@ fn condition_holds(number: u64) -> Option<&'static str>
         22 => "the vertex depends on the outer variables alone",
         23 => "no two terms of a branch, or outputs of stores, have a word in common",
         24 => "no later instance writes the cell of an output of stores",
+        25 =>
+            "points of two parts of a joint term have different images: no point of both meets the rows at an end of their split",
         _ => return None,
     })
 }
 
 /// What a place of the failure of the condition of this number names.
 fn condition_place(number: u64) -> Option<&'static str>
-    ensures there { IsSome result ↔ ((1 ≤ number) × (number ≤ 24)) }
+    ensures there { IsSome result ↔ ((1 ≤ number) × (number ≤ 25)) }
     ensures text { IfSome result (λ text. slice_get condition_places (number - 1) ≡ Some text.now) }
 {
     Some(match number {
@@ -79,8 +82,8 @@ fn condition_place(number: u64) -> Option<&'static str>
             "`label/i` or `stop/i`: two for each member of the set, or the leaf where the word has no label",
         15 => "the leaf, `rows/i`, or `empty`",
         16 => "`inverse/row/column`",
-        17 => "`matrix/coordinate`",
-        18 => "`apart/i`, one for each pair of pieces of two families",
+        17 => "`matrix/coordinate`; `parts/0/map/coordinate` in a joint term",
+        18 => "`apart/i`, one for each pair of pieces of two such families",
         19 => "`edge/i`, of the i-th leaf that isn't empty",
         20 => "in `reach`",
         21 => "in `back`",
@@ -88,13 +91,15 @@ fn condition_place(number: u64) -> Option<&'static str>
         23 => "`disjoint/i`, one for each pair of pieces of two terms; `apart/i` in stores",
         24 =>
             "`later/i`: one for each statement that writes the array and each level at which it could come",
+        25 =>
+            "`distinct/i`, one for each pair of parts, then `yes` or `no` for each test on the way, then `empty`",
         _ => return None,
     })
 }
 
-/// What is said of the condition of this number, from 1 to 24.
+/// What is said of the condition of this number, from 1 to 25.
 pub fn condition_of(number: u64) -> Option<Condition>
-    ensures there { IsSome result ↔ ((1 ≤ number) × (number ≤ 24)) }
+    ensures there { IsSome result ↔ ((1 ≤ number) × (number ≤ 25)) }
     ensures holds { IfSome result (λ said. slice_get condition_texts (number - 1) ≡ Some said.holds.now) }
     ensures place { IfSome result (λ said. slice_get condition_places (number - 1) ≡ Some said.place.now) }
 {

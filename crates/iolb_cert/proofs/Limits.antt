@@ -6,8 +6,7 @@ use Rattle.std.specs.Prelude.{Option, IfSome}
 use Rattle.certificate_fit.specs.Limits.{IsSmallCredit, NameRows, IsSmallReach, IsSmallWay, IsSmallSpot}
 use Rattle.k_partition.specs.declared.term.Partition.{Partition}
 use Rattle.k_partition.specs.View.{credit_term_of, partition_of}
-use Rattle.reuse_paths.specs.declared.family.Credit.{Credit}
-use Rattle.reuse_paths.specs.Families.{CreditedNest, family_of}
+use Rattle.reuse_paths.specs.Families.{family_of}
 use Rattle.reuse_paths.specs.Walks.{SpotForms, ReachClaim}
 use Rattle.wavefront.specs.declared.cold.Cold.{Cold}
 use Rattle.wavefront.specs.declared.front.Wavefront.{Wavefront}
@@ -16,8 +15,7 @@ use Rattle.iolb_check.specs.Limits.{IsSmallCold, IsSmallFront, IsSmallPartition,
 use Rattle.iolb_check.specs.declared.term.Term.{Term}
 use Rattle.iolb_check.specs.declared.term.Term.TheVariants as terms
 use Rattle.iolb_check.specs.declared.term.Branch.{Branch}
-use Rattle.certificate_parts.specs.Credits.{WrittenCredit, IsSmallWrittenCredit, credit_shape}
-use Rattle.certificate_parts.specs.Nests.{IsSmallNest}
+use Rattle.certificate_parts.specs.Credits.{IsSmallWrittenCredit, credit_shape}
 use Rattle.certificate_parts.specs.Families.{AreSmallFamilies, families_shape}
 use Rattle.certificate_parts.specs.Polynomials.{all_read_small}
 use Rattle.certificate_parts.specs.Reaches.{spot_shape}
@@ -26,7 +24,9 @@ use Rattle.iolb_cert.specs.Certificates.{certificate_shape}
 use Rattle.iolb_cert.specs.ColdTexts.{cold_fields, cold_parts, cold_shape}
 use Rattle.iolb_cert.specs.FrontTexts.{front_fields, front_parts, front_shape}
 use Rattle.iolb_cert.specs.PartitionTexts.{partition_fields, partition_parts, members_shape, partition_shape}
-use Rattle.iolb_cert.specs.Read.{PartitionClaim, WrittenCold, WrittenPartition, WrittenFront, WrittenTerm, as_cold, as_partition, as_front, WrittenBranch, WrittenCertificate, IsCold, IsPartition, IsFront, IsCreditTerm, IsTerm, IsBranch, IsCertificate}
+use Rattle.iolb_cert.specs.Read.{PartitionClaim, WrittenCold, WrittenPartition, WrittenFront, WrittenTerm, as_cold, as_partition, as_front, as_joint, WrittenBranch, WrittenCertificate, IsCold, IsPartition, IsFront, IsTerm, IsBranch, IsCertificate}
+use Rattle.joint_text.specs.Joint.{IsCreditTerm}
+use Rattle.joint_text.proofs.Limits.{read_credit_small, read_joint_small}
 use Rattle.certificate_parts.specs.Inverses.{inverse_shape}
 use Rattle.iolb_cert.specs.Terms.{term_shape, branch_shape}
 use Rattle.certificate_parts.proofs.Related.{all_related, as_many}
@@ -78,16 +78,6 @@ read_front_small said front is small =
       back = all.0;
     }
 
-read_credit_small : (said : WrittenCredit) (credit : Credit) → IsCreditTerm said (credit_term_of credit) → IsSmallWrittenCredit said → IsSmallCredit credit
-read_credit_small said credit is small =
-    let nest : IsSmallNest credit.nest = subst (λ (credited : CreditedNest). IsSmallNest credited.nest) (sym is.nest) small.nest in
-    record {
-      variables = nest.1;
-      bounds = nest.0;
-      shown = subst NameRows (sym is.shown) small.shown;
-      sums = all_read_small said.sums credit.sums.sums is.sums small.sums;
-    }
-
 read_partition_small : (said : WrittenPartition) (partition : Partition) → IsPartition said (partition_of partition) → partition_shape.IsWithin said → IsSmallPartition partition
 unfolding partition_shape members_shape families_shape credit_shape
 read_partition_small said partition is small =
@@ -118,12 +108,19 @@ read_term_small : (said : WrittenTerm) (term : Term) → IsTerm said (claim_of_t
 read_term_small (as_cold said) (terms.Cold cold) is small = read_cold_small said cold is small
 read_term_small (as_partition said) (terms.Partition partition) is small = read_partition_small said partition is small
 read_term_small (as_front said) (terms.Wavefront front) is small = read_front_small said front is small
+read_term_small (as_joint said) (terms.Joint joint) is small = read_joint_small said joint is small
 read_term_small (as_cold said) (terms.Partition partition) is small = absurd is
 read_term_small (as_cold said) (terms.Wavefront front) is small = absurd is
+read_term_small (as_cold said) (terms.Joint joint) is small = absurd is
 read_term_small (as_partition said) (terms.Cold cold) is small = absurd is
 read_term_small (as_partition said) (terms.Wavefront front) is small = absurd is
+read_term_small (as_partition said) (terms.Joint joint) is small = absurd is
 read_term_small (as_front said) (terms.Cold cold) is small = absurd is
 read_term_small (as_front said) (terms.Partition partition) is small = absurd is
+read_term_small (as_front said) (terms.Joint joint) is small = absurd is
+read_term_small (as_joint said) (terms.Cold cold) is small = absurd is
+read_term_small (as_joint said) (terms.Partition partition) is small = absurd is
+read_term_small (as_joint said) (terms.Wavefront front) is small = absurd is
 
 read_branch_small : (said : WrittenBranch) (branch : Branch) → IsBranch said (claim_of_branch branch) → branch_shape.IsWithin said → IsSmallBranch branch
 unfolding branch_shape

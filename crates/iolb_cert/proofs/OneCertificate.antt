@@ -10,7 +10,7 @@ use Rattle.dep_quast.specs.Tree.{SelectionTree}
 use Rattle.domain_count.specs.Claims.{SumClaims}
 use Rattle.k_partition.specs.Term.{CreditTerm, PartitionTerm}
 use Rattle.reuse_paths.specs.Families.{CreditedNest}
-use Rattle.iolb_check.specs.Claims.{ColdClaim, FrontClaim, TermClaim, cold, partition, front, BranchClaim, CertificateClaim}
+use Rattle.iolb_check.specs.Claims.{ColdClaim, FrontClaim, TermClaim, cold, partition, front, joint, BranchClaim, CertificateClaim}
 use Rattle.serde_json.specs.Data.{Data}
 use Rattle.json_parts.specs.declared.error.CertFault.{CertFault}
 use Rattle.json_parts.specs.Outcome.{Outcome}
@@ -21,7 +21,11 @@ use Rattle.certificate_parts.proofs.Related.{all-one}
 use Rattle.iolb_cert.specs.Certificates.{reads_certificate}
 use Rattle.iolb_cert.specs.OneCertificate.{HasCertificate, TextsHaveOneCertificate, TextsHaveOneAnswer}
 use Rattle.iolb_cert.specs.Texts.{IsTextOf, IsTextFault}
-use Rattle.iolb_cert.specs.Read.{PartitionClaim, WrittenPartition, WrittenTerm, as_cold, as_partition, as_front, WrittenBranch, WrittenCertificate, claim_of_partition, IsCreditTerm, IsPartition, IsTerm, IsBranch, IsCertificate}
+use Rattle.iolb_cert.specs.Read.{PartitionClaim, WrittenPartition, WrittenTerm, as_cold, as_partition, as_front, as_joint, WrittenBranch, WrittenCertificate, claim_of_partition, IsPartition, IsTerm, IsBranch, IsCertificate}
+use Rattle.joint_text.specs.Joint.{IsCreditTerm, IsJoint, WrittenJoint}
+use Rattle.joint_text.specs.Parts.{IsPart, WrittenPart, part_with}
+use Rattle.joint_partition.specs.Splits.{SplitTree}
+use Rattle.joint_partition.specs.Term.{JointFamily, JointTerm, PartTerm}
 
 -- ---- the same text says the same
 
@@ -72,6 +76,25 @@ one-partition written a b h g =
     ∙ ap (λ (sums : List Quotient). joined (claim_of_partition b) sums a.credits) (one-list written.sums a.count.sums b.count.sums h.sums g.sums)
     ∙ ap (joined (claim_of_partition b) b.count.sums) (all-one IsCreditTerm one-credit written.credits a.credits b.credits h.credits g.credits)
 
+one-part : (written : WrittenPart) (a b : PartTerm) → IsPart written a → IsPart written b → a ≡ b
+one-part written a b h g = h.claims ∙ ap (part_with written) (one-list written.sums a.count.sums b.count.sums h.sums g.sums) ∙ sym g.claims
+
+-- a joint term by its members
+abbrev of_members : List PartTerm → List SplitTree → ℕ → ℕ → ℕ → List CreditTerm → List JointFamily → List FarkasMultipliers → JointTerm
+of_members parts distinct q a b credits families apart =
+    record { parts = parts; distinct = distinct; q = q; a = a; b = b; credits = credits; families = families; apart = apart }
+
+one-joint : (written : WrittenJoint) (a b : JointTerm) → IsJoint written a → IsJoint written b → a ≡ b
+one-joint written a b h g =
+    ap (λ (x : List PartTerm). of_members x a.distinct a.q a.a a.b a.credits a.families a.apart) (all-one IsPart one-part written.parts a.parts b.parts h.parts g.parts)
+    ∙ ap (λ (x : List SplitTree). of_members b.parts x a.q a.a a.b a.credits a.families a.apart) (h.distinct ∙ sym g.distinct)
+    ∙ ap (λ (x : ℕ). of_members b.parts b.distinct x a.a a.b a.credits a.families a.apart) (h.q ∙ sym g.q)
+    ∙ ap (λ (x : ℕ). of_members b.parts b.distinct b.q x a.b a.credits a.families a.apart) (h.a ∙ sym g.a)
+    ∙ ap (λ (x : ℕ). of_members b.parts b.distinct b.q b.a x a.credits a.families a.apart) (h.b ∙ sym g.b)
+    ∙ ap (λ (x : List CreditTerm). of_members b.parts b.distinct b.q b.a b.b x a.families a.apart) (all-one IsCreditTerm one-credit written.credits a.credits b.credits h.credits g.credits)
+    ∙ ap (λ (x : List JointFamily). of_members b.parts b.distinct b.q b.a b.b b.credits x a.apart) (h.families ∙ sym g.families)
+    ∙ ap (of_members b.parts b.distinct b.q b.a b.b b.credits b.families) (h.apart ∙ sym g.apart)
+
 one-term : (written : WrittenTerm) (a b : TermClaim) → IsTerm written a → IsTerm written b → a ≡ b
 one-term (as_cold written) (cold claim qs) (cold other rs) h g =
     ap (λ (x : ColdClaim). cold x qs) (h.claims ∙ sym g.claims) ∙ ap (cold other) (one-list written.sums qs rs h.sums g.sums)
@@ -79,18 +102,31 @@ one-term (as_partition written) (partition term) (partition other) h g = ap part
 one-term (as_front written) (front claim qs os) (front other rs ts) h g =
     ap (λ (x : FrontClaim). front x qs os) (h.claims ∙ sym g.claims) ∙ ap (λ (x : List Quotient). front other x os) (one-list written.sums qs rs h.sums g.sums)
     ∙ ap (front other rs) (one-list written.outer_sums os ts h.outer_sums g.outer_sums)
+one-term (as_joint written) (joint term) (joint other) h g = ap joint (one-joint written term other h g)
 one-term (as_cold written) (cold claim qs) (partition other) h g = absurd g
 one-term (as_cold written) (cold claim qs) (front other rs ts) h g = absurd g
+one-term (as_cold written) (cold claim qs) (joint other) h g = absurd g
 one-term (as_cold written) (partition term) b h g = absurd h
 one-term (as_cold written) (front claim qs os) b h g = absurd h
+one-term (as_cold written) (joint term) b h g = absurd h
 one-term (as_partition written) (partition term) (cold other rs) h g = absurd g
 one-term (as_partition written) (partition term) (front other rs ts) h g = absurd g
+one-term (as_partition written) (partition term) (joint other) h g = absurd g
 one-term (as_partition written) (cold claim qs) b h g = absurd h
 one-term (as_partition written) (front claim qs os) b h g = absurd h
+one-term (as_partition written) (joint term) b h g = absurd h
 one-term (as_front written) (front claim qs os) (cold other rs) h g = absurd g
 one-term (as_front written) (front claim qs os) (partition other) h g = absurd g
+one-term (as_front written) (front claim qs os) (joint other) h g = absurd g
 one-term (as_front written) (cold claim qs) b h g = absurd h
 one-term (as_front written) (partition term) b h g = absurd h
+one-term (as_front written) (joint term) b h g = absurd h
+one-term (as_joint written) (joint term) (cold other rs) h g = absurd g
+one-term (as_joint written) (joint term) (partition other) h g = absurd g
+one-term (as_joint written) (joint term) (front other rs ts) h g = absurd g
+one-term (as_joint written) (cold claim qs) b h g = absurd h
+one-term (as_joint written) (partition term) b h g = absurd h
+one-term (as_joint written) (front claim qs os) b h g = absurd h
 
 one-branch : (written : WrittenBranch) (a b : BranchClaim) → IsBranch written a → IsBranch written b → a ≡ b
 one-branch written a b h g =

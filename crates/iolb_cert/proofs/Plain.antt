@@ -1,18 +1,16 @@
 -- How deep the values nest that are written, and that they have no floats.
-use Rattle.std.proofs.Common.{ℕ, List, [], ◌∷◌, map, Vec, Global, refl, arith}
+use Rattle.std.proofs.Common.{List, [], ◌∷◌, map, Vec, Global, refl, arith}
 use Rattle.std.specs.List.{AllByRecursion}
-use Rattle.affine_form.specs.Matrix.{IntegerMatrix}
 use Rattle.dep_quast.specs.Tree.{tree_of}
 use Rattle.dep_quast.specs.declared.quast.Quast.{Quast}
 use Rattle.certificate_fit.specs.Limits.{IsSmallTree}
 use Rattle.iolb_check.specs.Limits.{CertificateParts}
 use Rattle.dep_quast.specs.Quasts.{row_trees}
-use Rattle.json_parts.specs.Shape.{Shape}
 use Rattle.certificate_parts.specs.Families.{families_shape}
 use Rattle.certificate_parts.specs.Leaves.{leaf_data}
 use Rattle.certificate_parts.specs.Polynomials.{polynomial_data}
 use Rattle.certificate_parts.specs.Trees.{trees_shape}
-use Rattle.certificate_parts.proofs.Plain.{IsPlain, more, plain-list, plain-map, plain-none, plain-member, plain-object, plain-one, plain-natural, plain-forms, plain-all_multipliers, plain-matrix, plain-nest, plain-polynomial, plain-leaf, plain-trees}
+use Rattle.certificate_parts.proofs.Plain.{IsPlain, more, plain-all, plain-inverse, plain-list, plain-map, plain-none, plain-member, plain-object, plain-one, plain-natural, plain-forms, plain-all_multipliers, plain-matrix, plain-nest, plain-polynomial, plain-leaf, plain-trees}
 use Rattle.certificate_parts.proofs.PlainFamilies.{plain-families, plain-credits}
 use Rattle.certificate_parts.proofs.PlainWalks.{plain-reach, plain-way, plain-spot, plain-source}
 use Rattle.certificate_parts.proofs.ReadTrees.{quasts_small}
@@ -20,19 +18,11 @@ use Rattle.iolb_cert.specs.Certificates.{certificate_shape, certificate_data}
 use Rattle.iolb_cert.specs.ColdTexts.{cold_shape}
 use Rattle.iolb_cert.specs.FrontTexts.{front_shape}
 use Rattle.iolb_cert.specs.PartitionTexts.{members_shape, partition_shape}
-use Rattle.iolb_cert.specs.Read.{WrittenCold, WrittenPartition, WrittenFront, WrittenTerm, as_cold, as_partition, as_front, WrittenBranch}
-use Rattle.certificate_parts.specs.Inverses.{inverse_shape}
+use Rattle.iolb_cert.specs.Read.{WrittenCold, WrittenPartition, WrittenFront, WrittenTerm, as_cold, as_partition, as_front, as_joint, WrittenBranch}
+use Rattle.joint_text.proofs.Plain.{plain-joint}
 use Rattle.iolb_cert.specs.Terms.{term_shape, branch_shape}
 use Rattle.iolb_cert.specs.Written.{written_branch, written_of}
 use Rattle.iolb_cert.proofs.Limits.{small-way}
-
-plain-all : {A : Type 0} (n : ℕ) (shape : Shape A) → ((a : A) → shape.IsWithin a → IsPlain n (shape.data_of a)) → (all : List A) → AllByRecursion shape.IsWithin all → AllByRecursion (IsPlain n) (map shape.data_of all)
-plain-all n shape one [] small = tt
-plain-all n shape one (a ∷ all) small = (one a small.0, plain-all n shape one all small.1)
-
-plain-inverse : (inverse : IntegerMatrix × ℕ) → IsPlain 3 (inverse_shape.data_of inverse)
-unfolding inverse_shape
-plain-inverse inverse = plain-object 2 _ (plain-member 2 2 _ _ _ (omega arith) (plain-matrix inverse.0) (plain-member 0 2 _ _ _ (omega arith) (plain-natural inverse.1) (plain-none 2)))
 
 plain-cold : (cold : WrittenCold) → IsPlain 5 (cold_shape.data_of cold)
 unfolding cold_shape
@@ -83,26 +73,27 @@ plain-partition partition small =
     (plain-member 0 26 _ _ _ (omega arith) (plain-natural partition.claim.statement)
     (plain-member 4 26 _ _ _ (omega arith) (plain-map 3 polynomial_data partition.sums plain-polynomial) (plain-none 26)))))))))))))))
 
-plain-term : (term : WrittenTerm) → term_shape.IsWithin term → IsPlain 28 (term_shape.data_of term)
-plain-term (as_cold cold) small = more 6 28 (term_shape.data_of (as_cold cold)) (omega arith) (plain-one 5 _ _ (plain-cold cold))
-plain-term (as_partition partition) small = plain-one 27 _ _ (plain-partition partition small)
-plain-term (as_front front) small = more 26 28 (term_shape.data_of (as_front front)) (omega arith) (plain-one 25 _ _ (plain-front front small))
+plain-term : (term : WrittenTerm) → term_shape.IsWithin term → IsPlain 29 (term_shape.data_of term)
+plain-term (as_cold cold) small = more 6 29 (term_shape.data_of (as_cold cold)) (omega arith) (plain-one 5 _ _ (plain-cold cold))
+plain-term (as_partition partition) small = more 28 29 (term_shape.data_of (as_partition partition)) (omega arith) (plain-one 27 _ _ (plain-partition partition small))
+plain-term (as_front front) small = more 26 29 (term_shape.data_of (as_front front)) (omega arith) (plain-one 25 _ _ (plain-front front small))
+plain-term (as_joint joint) small = plain-one 28 _ _ (plain-joint joint small)
 
-pub plain-branch : (branch : WrittenBranch) → branch_shape.IsWithin branch → IsPlain 30 (branch_shape.data_of branch)
+pub plain-branch : (branch : WrittenBranch) → branch_shape.IsWithin branch → IsPlain 31 (branch_shape.data_of branch)
 unfolding branch_shape
 plain-branch branch small =
-    plain-object 29 _ (plain-member 2 29 _ _ _ (omega arith) (plain-all_multipliers branch.disjoint)
-    (plain-member 29 29 _ _ _ (omega arith) (plain-list 28 (map term_shape.data_of branch.terms) (plain-all 28 term_shape plain-term branch.terms small.1.0.0)) (plain-none 29)))
+    plain-object 30 _ (plain-member 2 30 _ _ _ (omega arith) (plain-all_multipliers branch.disjoint)
+    (plain-member 30 30 _ _ _ (omega arith) (plain-list 29 (map term_shape.data_of branch.terms) (plain-all 29 term_shape plain-term branch.terms small.1.0.0)) (plain-none 30)))
 
 plain-rows : (rows : List (Vec Quast Global)) → AllByRecursion (λ (row : Vec Quast Global). AllByRecursion (λ (quast : Quast). IsSmallTree (tree_of quast)) row.items) rows
     → AllByRecursion (IsPlain 20) (map trees_shape.data_of (map row_trees rows))
 plain-rows [] h = tt
 plain-rows (row ∷ rows) h = (plain-trees row.items h.0, plain-rows rows h.1)
 
-pub plain : (parts : CertificateParts) → certificate_shape.IsWithin (written_of parts) → IsPlain 32 (certificate_data (written_of parts))
+pub plain : (parts : CertificateParts) → certificate_shape.IsWithin (written_of parts) → IsPlain 33 (certificate_data (written_of parts))
 unfolding certificate_shape
 plain parts small =
     let branches = map written_branch parts.branches in
-    plain-object 31 _ (plain-member 31 31 _ _ _ (omega arith) (plain-list 30 (map branch_shape.data_of branches) (plain-all 30 branch_shape plain-branch branches small.0.0))
-    (plain-member 21 31 _ _ _ (omega arith) (plain-list 20 (map trees_shape.data_of (map row_trees parts.quasts.rows.items)) (plain-rows parts.quasts.rows.items (quasts_small (map row_trees parts.quasts.rows.items) parts.quasts refl small.1.0)))
-    (plain-member 0 31 _ _ _ (omega arith) (plain-natural 1) (plain-none 31))))
+    plain-object 32 _ (plain-member 32 32 _ _ _ (omega arith) (plain-list 31 (map branch_shape.data_of branches) (plain-all 31 branch_shape plain-branch branches small.0.0))
+    (plain-member 21 32 _ _ _ (omega arith) (plain-list 20 (map trees_shape.data_of (map row_trees parts.quasts.rows.items)) (plain-rows parts.quasts.rows.items (quasts_small (map row_trees parts.quasts.rows.items) parts.quasts refl small.1.0)))
+    (plain-member 0 32 _ _ _ (omega arith) (plain-natural 1) (plain-none 32))))

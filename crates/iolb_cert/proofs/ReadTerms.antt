@@ -18,8 +18,9 @@ use Rattle.json_parts.specs.Shape.{IsReadBack}
 use Rattle.json_parts.proofs.Back.{tested_read}
 use Rattle.certificate_parts.specs.Reaches.{reach_shape, spot_shape}
 use Rattle.iolb_cert.specs.PartitionTexts.{reads_shape, name_shape, members_shape, has_events, partition_shape}
-use Rattle.iolb_cert.specs.Read.{WrittenCold, WrittenPartition, WrittenFront, as_cold, as_partition, as_front}
-use Rattle.iolb_cert.specs.Terms.{cold_term_fields, partition_term_fields, front_term_fields, reads_term, term_shape}
+use Rattle.iolb_cert.specs.Read.{WrittenCold, WrittenPartition, WrittenFront, as_cold, as_partition, as_front, as_joint}
+use Rattle.iolb_cert.specs.Terms.{cold_term_fields, partition_term_fields, front_term_fields, joint_term_fields, reads_term, term_shape}
+use Rattle.joint_text.specs.Joint.{WrittenJoint}
 
 pub shape_read : (shape : Shape) → IsReadBack name_shape shape
 unfolding reads_shape
@@ -60,6 +61,11 @@ pub front_told : (d : Data) (b : WrittenFront × Unit {0}) → has_keys (codes "
 unfolding reads_term
 front_told d b no_cold no_partition keys read = rw (no_cold, no_partition, keys, read) refl
 
+pub joint_told : (d : Data) (b : WrittenJoint × Unit {0}) → has_keys (codes "cold" ∷ []) d ≡ false → has_keys (codes "partition" ∷ []) d ≡ false → has_keys (codes "wavefront" ∷ []) d ≡ false → has_keys (codes "joint" ∷ []) d ≡ true
+    → reads_object joint_term_fields d ≡ Ok b → reads_term d ≡ Ok (as_joint b.0)
+unfolding reads_term
+joint_told d b no_cold no_partition no_front keys read = rw (no_cold, no_partition, no_front, keys, read) refl
+
 pub cold_term_read : (cold : WrittenCold) → IsReadBack (object_shape cold_term_fields) (cold, tt) → IsReadBack term_shape (as_cold cold)
 unfolding reads_term has_keys
 cold_term_read cold h = rw h refl
@@ -71,3 +77,7 @@ partition_term_read partition h = rw h refl
 pub front_term_read : (front : WrittenFront) → IsReadBack (object_shape front_term_fields) (front, tt) → IsReadBack term_shape (as_front front)
 unfolding reads_term has_keys
 front_term_read front h = rw h refl
+
+pub joint_term_read : (joint : WrittenJoint) → IsReadBack (object_shape joint_term_fields) (joint, tt) → IsReadBack term_shape (as_joint joint)
+unfolding reads_term has_keys
+joint_term_read joint h = rw h refl

@@ -6,13 +6,14 @@ use Rattle.affine_form.specs.Matrix.{IntegerMatrix}
 use Rattle.affine_form.specs.Multipliers.{FarkasMultipliers}
 use Rattle.dep_quast.specs.Tree.{SelectionTree}
 use Rattle.k_partition.specs.declared.term.Shape.{Shape}
-use Rattle.k_partition.specs.Term.{CreditTerm, PartitionTerm}
+use Rattle.k_partition.specs.Term.{PartitionTerm}
 use Rattle.poly_tree.specs.Poly.{Quotient}
 use Rattle.reuse_paths.specs.Families.{FamilyForms}
-use Rattle.iolb_check.specs.Claims.{ColdClaim, FrontClaim, TermClaim, cold, partition, front, BranchClaim, CertificateClaim}
-use Rattle.certificate_parts.specs.Credits.{WrittenCredit, IsCredited}
+use Rattle.iolb_check.specs.Claims.{ColdClaim, FrontClaim, TermClaim, cold, partition, front, joint, BranchClaim, CertificateClaim}
+use Rattle.certificate_parts.specs.Credits.{WrittenCredit}
 use Rattle.json_parts.specs.Related.{AreAll}
 use Rattle.certificate_parts.specs.Polynomials.{ArePolynomials}
+use Rattle.joint_text.specs.Joint.{IsCreditTerm, IsJoint, WrittenJoint}
 
 -- a cold term: what it claims, and its polynomials as they are written
 pub record WrittenCold : Type 0 where
@@ -50,6 +51,7 @@ pub data WrittenTerm : Type 0 where
   as_cold : WrittenCold → WrittenTerm
   as_partition : WrittenPartition → WrittenTerm
   as_front : WrittenFront → WrittenTerm
+  as_joint : WrittenJoint → WrittenTerm
 
 pub record WrittenBranch : Type 0 where
   pub terms : List WrittenTerm
@@ -81,9 +83,6 @@ claim_of_partition term = record {
   apart = term.apart;
 }
 
-abbrev pub IsCreditTerm : WrittenCredit → CreditTerm → Type 0
-IsCreditTerm written credit = IsCredited written credit.nest credit.count
-
 pub record IsPartition (written : WrittenPartition) (term : PartitionTerm) : Type 0 where
   pub claims : claim_of_partition term ≡ written.claim
   pub sums : ArePolynomials written.sums term.count.sums
@@ -99,12 +98,19 @@ abbrev pub IsTerm : WrittenTerm → TermClaim → Type 0
 IsTerm (as_cold written) (cold claim sums) = IsCold written claim sums
 IsTerm (as_partition written) (partition term) = IsPartition written term
 IsTerm (as_front written) (front claim sums outer_sums) = IsFront written claim sums outer_sums
+IsTerm (as_joint written) (joint term) = IsJoint written term
 IsTerm (as_cold written) (partition term) = ⊥
 IsTerm (as_cold written) (front claim sums outer_sums) = ⊥
+IsTerm (as_cold written) (joint term) = ⊥
 IsTerm (as_partition written) (cold claim sums) = ⊥
 IsTerm (as_partition written) (front claim sums outer_sums) = ⊥
+IsTerm (as_partition written) (joint term) = ⊥
 IsTerm (as_front written) (cold claim sums) = ⊥
 IsTerm (as_front written) (partition term) = ⊥
+IsTerm (as_front written) (joint term) = ⊥
+IsTerm (as_joint written) (cold claim sums) = ⊥
+IsTerm (as_joint written) (partition term) = ⊥
+IsTerm (as_joint written) (front claim sums outer_sums) = ⊥
 
 -- the branch that is written
 abbrev pub IsBranch : WrittenBranch → BranchClaim → Type 0

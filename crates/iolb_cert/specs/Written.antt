@@ -13,7 +13,8 @@ use Rattle.iolb_check.specs.Claims.{claim_of_cold, claim_of_front, claim_of_term
 use Rattle.json_parts.specs.Related.{Link, other_link}
 use Rattle.certificate_parts.specs.Credits.{written_credit}
 use Rattle.certificate_parts.specs.Polynomials.{written_polynomial}
-use Rattle.iolb_cert.specs.Read.{WrittenCold, WrittenPartition, WrittenFront, WrittenTerm, as_cold, as_partition, as_front, WrittenBranch, WrittenCertificate, claim_of_partition, IsCold, IsPartition, IsFront, IsTerm, IsBranch, IsCertificate}
+use Rattle.iolb_cert.specs.Read.{WrittenCold, WrittenPartition, WrittenFront, WrittenTerm, as_cold, as_partition, as_front, as_joint, WrittenBranch, WrittenCertificate, claim_of_partition, IsCold, IsPartition, IsFront, IsTerm, IsBranch, IsCertificate}
+use Rattle.joint_text.specs.Joint.{written_joint}
 
 abbrev pub written_cold : Cold → WrittenCold
 written_cold cold = record { claim = claim_of_cold cold; sums = map written_polynomial cold.sums.sums }
@@ -36,6 +37,7 @@ abbrev pub written_term : Term → WrittenTerm
 written_term (terms.Cold cold) = as_cold (written_cold cold)
 written_term (terms.Partition partition) = as_partition (written_partition partition)
 written_term (terms.Wavefront front) = as_front (written_front front)
+written_term (terms.Joint joint) = as_joint (written_joint joint)
 
 abbrev pub written_branch : Branch → WrittenBranch
 written_branch branch = record { terms = map written_term branch.terms.items; disjoint = branch.disjoint.items }

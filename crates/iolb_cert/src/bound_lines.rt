@@ -2,10 +2,10 @@
 
 ghost use Rattle.std.specs.Prelude.{◌≡◌, ◌∷◌, [], ◌++◌, ℕ, length, map, flat_map, codes, decimal, string_bytes, IfOk, OnOk};
 ghost use Rattle.std.specs.List.{AllByRecursion};
-ghost use Rattle.iolb_model.specs.Bound.{partition, wavefront};
+ghost use Rattle.iolb_model.specs.Bound.{wavefront};
 ghost use Rattle.iolb_model.specs.Program.{IsOver};
 ghost use Rattle.poly_tree.specs.Printed.{polynomial_of};
-ghost use Rattle.iolb_model.specs.Printed.{assumption_text, bound_term_text, stretch_text, branches_text, bound_text as text_of_bound};
+ghost use Rattle.iolb_model.specs.Printed.{assumption_text, bound_term_text, counted_text, stretch_text, branches_text, bound_text as text_of_bound};
 ghost use Rattle.iolb_check.specs.Bounds.{bound_of, term_of};
 ghost use Rattle.k_partition.specs.Numbers.{numbers_of};
 
@@ -57,7 +57,7 @@ fn front_line(alloc: Global, names: &[Name], pairs: &Poly, outer: &Poly) -> Resu
     Ok(text)
 }
 
-/// The numbers of a partition term's stretches.
+/// The numbers of stretches.
 fn stretch(alloc: Global, bound: &PartitionBound) -> Result<String, Memory>
     ensures { IfOk result (λ text. string_bytes text ≡ stretch_text (numbers_of bound.now)) }
 {
@@ -66,12 +66,12 @@ fn stretch(alloc: Global, bound: &PartitionBound) -> Result<String, Memory>
     Ok(format!(in alloc; " T {a}*S + {b} U^{q}*{den} <= {num}*(S + T)^{m}")?)
 }
 
-/// The line of a partition term: how many points it has, how many are credited, and the numbers of its stretches.
-fn partition_line(alloc: Global, names: &[Name], bound: &PartitionBound) -> Result<Vec<u8>, Memory>
-    ensures { IfOk result (λ text. text.items ≡ bound_term_text names.now (partition (polynomial_of bound.now.count) (polynomial_of bound.now.credits) (numbers_of bound.now))) }
+/// The counts and the numbers of a term over stretches, and the end of the line: how many points it has, how many are credited.
+fn counted(alloc: Global, names: &[Name], bound: &PartitionBound) -> Result<Vec<u8>, Memory>
+    ensures { IfOk result (λ text. text.items ≡ counted_text names.now (polynomial_of bound.now.count) (polynomial_of bound.now.credits) (numbers_of bound.now)) }
 {
     let mut text = Vec::new(alloc);
-    text.extend_from_slice(b"  partition count ")?;
+    text.extend_from_slice(b" count ")?;
     text.extend_from_slice(bound.count.text(alloc, names)?.as_slice())?;
     text.extend_from_slice(b" credits ")?;
     text.extend_from_slice(bound.credits.text(alloc, names)?.as_slice())?;
@@ -91,10 +91,15 @@ fn push_term(alloc: Global, text: &mut Vec<u8>, names: &[Name], term: &Value) ->
             text.push(b'\n')?;
         }
         Value::Partition(bound) => {
-            text.extend_from_slice(partition_line(alloc, names, bound)?.as_slice())?;
+            text.extend_from_slice(b"  partition")?;
+            text.extend_from_slice(counted(alloc, names, bound)?.as_slice())?;
         }
         Value::Wavefront { pairs, outer } => {
             text.extend_from_slice(front_line(alloc, names, pairs, outer)?.as_slice())?;
+        }
+        Value::Joint(bound) => {
+            text.extend_from_slice(b"  joint")?;
+            text.extend_from_slice(counted(alloc, names, bound)?.as_slice())?;
         }
     }
     Ok(())

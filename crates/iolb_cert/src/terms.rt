@@ -11,6 +11,7 @@ use crate::partition::OfPartition;
 use affine_form::Memory;
 use certificate_parts::OfMultipliers;
 use iolb_check::{Branch, Term};
+use joint_text::OfJoint;
 use json_parts::{
     CertError, End, Few, ListOf, Part, Put, fault, has_keys, read_object, write_object,
 };
@@ -47,6 +48,10 @@ impl Part for OfTerm {
             let (front, ()) = read_object::<(OfFront, End)>(alloc, value, &["wavefront"])?;
             return Ok(Term::Wavefront(front));
         }
+        if has_keys(value, &["joint"]) {
+            let (joint, ()) = read_object::<(OfJoint, End)>(alloc, value, &["joint"])?;
+            return Ok(Term::Joint(joint));
+        }
         Err(fault(alloc, 2))
     }
 
@@ -66,6 +71,11 @@ impl Part for OfTerm {
             Term::Wavefront(front) => {
                 let all = put!(OfFront, front, End {});
                 let value = write_object(alloc, &["wavefront"], &all)?;
+                Ok(value)
+            }
+            Term::Joint(joint) => {
+                let all = put!(OfJoint, joint, End {});
+                let value = write_object(alloc, &["joint"], &all)?;
                 Ok(value)
             }
         }

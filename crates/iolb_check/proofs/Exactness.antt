@@ -1,6 +1,6 @@
 -- A certificate isn't both accepted and refused; what is accepted has values, and gives one bound.
 use Rattle.std.specs.Prelude.{codes}
-use Rattle.std.proofs.Common.{◌≡◌, refl, sym, ◌∙◌, ap, subst, ℕ, suc, List, [], ◌∷◌, ◌++◌, get_or, length, take, arith}
+use Rattle.std.proofs.Common.{◌≡◌, refl, sym, ◌∙◌, ap, subst, ℕ, suc, List, [], ◌∷◌, ◌++◌, get_or, length, map, take, arith}
 use Rattle.std.proofs.Math.Seq.{take-length}
 use Rattle.base_laws.proofs.Lists.{cons-same}
 use Rattle.iolb_model.specs.Program.{AffineProgram}
@@ -12,9 +12,12 @@ use Rattle.claims.proofs.Members.{numbered-member}
 use Rattle.dep_quast.specs.Tree.{SelectionTree}
 use Rattle.domain_count.specs.CountClaims.{count_claims, sums_claims}
 use Rattle.domain_count.proofs.Claimed.{claims-count, right-claims-give-one, sums-give, sums-same}
+use Rattle.joint_partition.specs.Claims.{apart_claims_of, count_of, cover_claims as joint_cover_claims, distinct_claims, families_claims, inside_claims as part_inside_claims, member_at, part_claims, parts_claims, total_claim, unit_claims as part_unit_claims}
+use Rattle.joint_partition.specs.Term.{JointTerm, PartTerm}
+use Rattle.joint_partition.proofs.LowestTerms.{joint-numbers-are-one, joint-numbers-there}
 use Rattle.k_partition.proofs.CreditSums.{total-same}
 use Rattle.k_partition.specs.declared.term.PartitionBound.{PartitionBound}
-use Rattle.k_partition.specs.Numbers.{factor_over, factor_under}
+use Rattle.k_partition.specs.Numbers.{factor_over, factor_under, numbers_of}
 use Rattle.k_partition.specs.PartitionClaims.{HasCreditsTotal, apart_claims, cover_claims, credit_claims, credit_place, family_claims_at, inside_claims, no_points, point_claims, sound_claims, unit_claims}
 use Rattle.k_partition.specs.Term.{CreditTerm, PartitionTerm}
 use Rattle.k_partition.specs.TermLoads.{weight_of}
@@ -25,10 +28,10 @@ use Rattle.wavefront.specs.ColdClaims.{instance_claims}
 use Rattle.wavefront.specs.FrontClaims.{front_counts, wave_claims}
 use Rattle.wavefront.specs.FrontTerm.{WavefrontTerm, outer_nest}
 use Rattle.wavefront.specs.Term.{ColdTerm}
-use Rattle.iolb_check.specs.Claims.{TermClaim, cold, partition, front, cold_term, front_term, BranchClaim}
+use Rattle.iolb_check.specs.Claims.{TermClaim, cold, partition, front, joint, cold_term, front_term, BranchClaim}
 use Rattle.iolb_check.specs.declared.bound.Value.{Value}
 use Rattle.iolb_check.specs.declared.bound.Value.TheVariants as values
-use Rattle.iolb_check.specs.Conditions.{conditions, branch_claims, disjoint_claims, term_claims, term_claims_at, terms_claims, terms_place, IsPartitionValue, IsValueOf, AreValuesOf, AreBranchValues}
+use Rattle.iolb_check.specs.Conditions.{conditions, branch_claims, disjoint_claims, term_claims, term_claims_at, terms_claims, terms_place, IsJointValue, IsPartitionValue, IsValueOf, AreValuesOf, AreBranchValues}
 use Rattle.iolb_check.specs.Exact.{RefusalsAreOne, ValidCertificatesGiveOne, ValidCertificatesHaveValues, ValidCertificatesStand}
 use Rattle.iolb_check.specs.TermFit.{certificate_fit}
 
@@ -46,25 +49,55 @@ bound-same program term one other h g =
     let den : one.den ≡ other.den = h.numbers.den ∙ sym g.numbers.den in
     λ i. record { count = count i; credits = credits i; a = a i; b = b i; q = q i; m = m i; num = num i; den = den i }
 
+-- so are two of a joint term
+joint-bound-same : (program : AffineProgram) (term : JointTerm) (one other : PartitionBound) → IsJointValue program term one → IsJointValue program term other → one ≡ other
+joint-bound-same program term one other h g =
+    let count : one.count ≡ other.count = total-same (length program.parameters) no_points (map count_of term.parts) one.count other.count (omega arith) h.count g.count in
+    let credits : one.credits ≡ other.credits = total-same (length program.parameters) no_points term.credits one.credits other.credits (omega arith) h.credits g.credits in
+    let numbers : numbers_of one ≡ numbers_of other = joint-numbers-are-one term (numbers_of one) (numbers_of other) h.numbers g.numbers in
+    λ i. record {
+      count = count i;
+      credits = credits i;
+      a = (numbers i).a;
+      b = (numbers i).b;
+      q = (numbers i).q;
+      m = (numbers i).m;
+      num = (numbers i).num;
+      den = (numbers i).den;
+    }
+
 value-same : (program : AffineProgram) (term : TermClaim) (one other : Value) → IsValueOf program term one → IsValueOf program term other → one ≡ other
 value-same program (cold claim sums) (values.Cold one) (values.Cold other) h g =
     ap values.Cold (right-claims-give-one program claim.nest (cold_term claim sums).count one other h g)
 value-same program (cold claim sums) (values.Cold one) (values.Partition bound) h g = absurd g
 value-same program (cold claim sums) (values.Cold one) (values.Wavefront pairs outer) h g = absurd g
+value-same program (cold claim sums) (values.Cold one) (values.Joint bound) h g = absurd g
 value-same program (cold claim sums) (values.Partition bound) other h g = absurd h
 value-same program (cold claim sums) (values.Wavefront pairs outer) other h g = absurd h
+value-same program (cold claim sums) (values.Joint bound) other h g = absurd h
 value-same program (partition term) (values.Cold one) other h g = absurd h
 value-same program (partition term) (values.Partition one) (values.Cold other) h g = absurd g
 value-same program (partition term) (values.Partition one) (values.Partition other) h g = ap values.Partition (bound-same program term one other h g)
 value-same program (partition term) (values.Partition one) (values.Wavefront pairs outer) h g = absurd g
+value-same program (partition term) (values.Partition one) (values.Joint other) h g = absurd g
 value-same program (partition term) (values.Wavefront pairs outer) other h g = absurd h
+value-same program (partition term) (values.Joint bound) other h g = absurd h
 value-same program (front claim sums outer_sums) (values.Cold one) other h g = absurd h
 value-same program (front claim sums outer_sums) (values.Partition bound) other h g = absurd h
 value-same program (front claim sums outer_sums) (values.Wavefront pairs outer) (values.Cold other) h g = absurd g
 value-same program (front claim sums outer_sums) (values.Wavefront pairs outer) (values.Partition other) h g = absurd g
+value-same program (front claim sums outer_sums) (values.Wavefront pairs outer) (values.Joint other) h g = absurd g
 value-same program (front claim sums outer_sums) (values.Wavefront pairs outer) (values.Wavefront others more) h g =
     ap (λ (p : Quotient). values.Wavefront p outer) (right-claims-give-one program claim.nest (front_term claim sums outer_sums).count pairs others h.0 g.0)
     ∙ ap (values.Wavefront others) (sums-same (length program.parameters) (outer_nest (front_term claim sums outer_sums)) outer_sums outer more h.1 g.1)
+value-same program (front claim sums outer_sums) (values.Joint bound) other h g = absurd h
+value-same program (joint term) (values.Cold count) other h g = absurd h
+value-same program (joint term) (values.Partition bound) other h g = absurd h
+value-same program (joint term) (values.Wavefront pairs outer) other h g = absurd h
+value-same program (joint term) (values.Joint one) (values.Cold other) h g = absurd g
+value-same program (joint term) (values.Joint one) (values.Partition other) h g = absurd g
+value-same program (joint term) (values.Joint one) (values.Wavefront pairs outer) h g = absurd g
+value-same program (joint term) (values.Joint one) (values.Joint other) h g = ap values.Joint (joint-bound-same program term one other h g)
 
 values-same : (program : AffineProgram) (terms : List TermClaim) (one other : List Value) → AreValuesOf program terms one → AreValuesOf program terms other → one ≡ other
 values-same program [] one other h g = h ∙ sym g
@@ -91,6 +124,22 @@ credits-total program place (credit ∷ credits) h =
     let sum = AllHold-right (count_claims program (get_or all last credit).nest.nest (get_or all last credit).count (credit_place place last))
     (record { condition = 2; place = credit_place place last ++ Key (codes "sums") ∷ []; statement = HasCreditsTotal (length program.parameters) (take (suc last) all) } ∷ []) here in
     subst (HasCreditsTotal (length program.parameters)) (take-length all) sum.0
+
+-- the counts of parts have a sum too
+parts-total : (program : AffineProgram) (place : List Step) (parts : List PartTerm) → AllHold (numbered (part_claims program place parts) 0 parts)
+    → HasCreditsTotal (length program.parameters) (map count_of parts)
+parts-total program place [] h = (no_points, refl)
+parts-total program place (part ∷ parts) h =
+    let last : ℕ = length parts in
+    let all : List PartTerm = part ∷ parts in
+    let own : PartTerm = get_or all last part in
+    let at : List Step = member_at place (codes "parts") last in
+    let counts : List Claim = count_claims program own.nest own.count at in
+    let total : List Claim = total_claim program at all last in
+    let inside : List Claim = part_inside_claims program at own in
+    let here = numbered-member (part_claims program place all) all last part (omega arith) h in
+    let sum = AllHold-right counts total (AllHold-left (counts ++ total) inside (AllHold-left (counts ++ total ++ inside) (part_unit_claims program at own) here)) in
+    subst (λ (ps : List PartTerm). HasCreditsTotal (length program.parameters) (map count_of ps)) (take-length all) sum.0
 
 value-there : (program : AffineProgram) (trees : List (List SelectionTree)) (place : List Step) (term : TermClaim) → AllHold (term_claims program trees place term)
     → (value : Value) × IsValueOf program term value
@@ -137,6 +186,31 @@ value-there program trees place (front claim sums outer_sums) h =
     let pairs = claims-count program term.nest term.count at (AllHold-left counts outer both) in
     let fronts = sums-give (length program.parameters) (outer_nest term) outer_sums at (codes "outer_sums") (AllHold-right counts outer both) in
     (values.Wavefront pairs.0 fronts.0, (pairs.1, fronts.1))
+value-there program trees place (joint term) h =
+    let at : List Step = place ++ Key (codes "joint") ∷ [] in
+    let parts : List Claim = parts_claims program at term in
+    let images : List Claim = distinct_claims program at 0 term.parts term.distinct in
+    let credited : List Claim = numbered (credit_claims program at term.credits) 0 term.credits in
+    let cover : List Claim = joint_cover_claims at term in
+    let families : List Claim = families_claims program trees at term in
+    let points : AllHold (parts ++ images ++ credited ++ cover) =
+    AllHold-left (parts ++ images ++ credited ++ cover) families (AllHold-left (parts ++ images ++ credited ++ cover ++ families) (apart_claims_of program trees at term) h) in
+    let some : AllHold (parts ++ images ++ credited) = AllHold-left (parts ++ images ++ credited) cover points in
+    let count = parts-total program at term.parts (AllHold-left parts images (AllHold-left (parts ++ images) credited some)) in
+    let credits = credits-total program at term.credits (AllHold-right (parts ++ images) credited some) in
+    let numbers = joint-numbers-there term in (
+      values.Joint (record {
+        count = count.0;
+        credits = credits.0;
+        a = numbers.0.a;
+        b = numbers.0.b;
+        q = numbers.0.q;
+        m = numbers.0.m;
+        num = numbers.0.num;
+        den = numbers.0.den;
+      }),
+      record { count = count.1; credits = credits.1; numbers = numbers.1 },
+    )
 
 values-there : (program : AffineProgram) (trees : List (List SelectionTree)) (place : List Step) (index : ℕ) (terms : List TermClaim)
     → AllHold (numbered (term_claims_at program trees place) index terms) → (values : List Value) × AreValuesOf program terms values

@@ -116,11 +116,11 @@ abbrev AreThere : AffineProgram → ℕ → WalkTree → Type 0
 AreThere program statement (take read entries) = read < length (statement_at program statement).reads
 AreThere program statement (walk_test form above below) = AreThere program statement above × AreThere program statement below
 
-are-there : (walk : WalkSetting) (statement : ℕ) (tree : WalkTree) → WalkFits walk statement tree → AreThere walk.program statement tree
+pub are-there : (walk : WalkSetting) (statement : ℕ) (tree : WalkTree) → WalkFits walk statement tree → AreThere walk.program statement tree
 are-there walk statement (take read entries) fits = fits.read_fits.read
 are-there walk statement (walk_test form above below) fits = (are-there walk statement above fits.1, are-there walk statement below fits.2)
 
-walk-told : (walk : WalkSetting) (statement : ℕ) (rows : List AffineForm) (tree : WalkTree) → AreThere walk.program statement tree
+pub walk-told : (walk : WalkSetting) (statement : ℕ) (rows : List AffineForm) (tree : WalkTree) → AreThere walk.program statement tree
     → targets_of (walk_pieces walk statement rows tree) ≡ walk_targets walk.program walk.trees statement tree
 unfolding array
 walk-told walk statement rows (take read entries) there =
@@ -152,7 +152,7 @@ module _ (program : AffineProgram) (trees : List (List SelectionTree)) (credits 
         walk-told walk statement (region_context walk statement region.rows) region.tree
         (subst (λ (p : AffineProgram). AreThere p statement region.tree) (sym same) (are-there (family_setting program trees credits family node.label) statement region.tree h.1))
 
-  regions-told : (statement : ℕ) (nodes : List (Option NodeForms)) → NodesFit program trees credits family statement nodes
+  pub regions-told : (statement : ℕ) (nodes : List (Option NodeForms)) → NodesFit program trees credits family statement nodes
       → targets_of (regions_pieces walk statement (map node_region nodes)) ≡ regions_targets walk.program walk.trees statement (map node_region nodes)
   regions-told statement [] fits = refl
   regions-told statement (node ∷ nodes) fits =

@@ -33,6 +33,7 @@ use Rattle.claims.proofs.Laws.{AllHold-left, AllHold-right}
 use Rattle.certificate_fit.proofs.ReadTrees.{open-many, bounds-fit, columns-many, tree-of, leaves-many}
 use Rattle.certificate_fit.proofs.TreeParts.{forms-over, rows-fit}
 use Rattle.iolb_check.proofs.FitFronts.{front-fits}
+use Rattle.iolb_check.proofs.FitJoints.{joint-fits}
 use Rattle.iolb_check.proofs.FitPartitions.{partition-fits}
 
 -- ---- terms
@@ -101,6 +102,12 @@ module _ (program : ProgramParts) (trees : List (List SelectionTree)) (fit : All
       let here : List Claim = term_at (meaning program) trees place index (claim_of_term (terms.Wavefront front)) in
       let rest : List Claim = numbered (term_at (meaning program) trees place) (suc index) (map claim_of_term ts) in (
         front-fits program trees fit rows (place ++ Index index ∷ [] ++ Key (codes "wavefront") ∷ []) front small.0 (AllHold-left here rest h),
+        terms-fit place (suc index) ts small.1 (AllHold-right here rest h),
+      )
+  terms-fit place index (terms.Joint joint ∷ ts) small h =
+      let here : List Claim = term_at (meaning program) trees place index (claim_of_term (terms.Joint joint)) in
+      let rest : List Claim = numbered (term_at (meaning program) trees place) (suc index) (map claim_of_term ts) in (
+        joint-fits program trees fit rows (place ++ Index index ∷ [] ++ Key (codes "joint") ∷ []) joint small.0 (AllHold-left here rest h),
         terms-fit place (suc index) ts small.1 (AllHold-right here rest h),
       )
 

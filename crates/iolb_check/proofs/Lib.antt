@@ -6,4 +6,8 @@ pub mod PiecesOf
 pub mod FitFronts
 pub mod FamilyTargets
 pub mod FitPartitions
+pub mod FitSplits
+pub mod FitJointWalks
+pub mod FitJoints
+pub mod JointTargets
 pub mod LegalCounts

@@ -22,6 +22,9 @@ use Rattle.dep_quast.specs.Quasts.{tree_at, tree_for}
 use Rattle.reuse_paths.specs.Walks.{SpotForms}
 use Rattle.dep_quast.specs.Truth.{ReadFits}
 use Rattle.footprint_pieces.proofs.PairCounts.{targets_of}
+use Rattle.joint_partition.specs.JointPieces.{joint_pieces}
+use Rattle.joint_partition.specs.Term.{JointTerm}
+use Rattle.joint_partition.specs.View.{joint_of}
 use Rattle.k_partition.specs.PartitionPieces.{partition_pieces}
 use Rattle.k_partition.specs.Term.{PartitionTerm, credited_nests}
 use Rattle.k_partition.specs.View.{partition_of}
@@ -38,8 +41,9 @@ use Rattle.iolb_check.specs.declared.term.Term.TheVariants as terms
 use Rattle.iolb_check.specs.Claims.{claim_of_term}
 use Rattle.iolb_check.specs.Conditions.{branch_pieces, term_claims_at}
 use Rattle.iolb_check.specs.Fit.{ColdTermFits, TermFits, HasPieces}
-use Rattle.iolb_check.specs.FamilyTargets.{leaf_targets, partition_targets}
+use Rattle.iolb_check.specs.FamilyTargets.{joint_targets, leaf_targets, partition_targets}
 use Rattle.iolb_check.proofs.FamilyTargets.{all-told}
+use Rattle.iolb_check.proofs.JointTargets.{joint-told}
 use Rattle.iolb_check.specs.PairFit.{front_targets, stop_targets, targets_if, cold_targets, term_targets}
 
 -- ---- targets that are told
@@ -150,3 +154,10 @@ module _ (program : ProgramParts) (trees : List (List SelectionTree)) (list : Li
       (map targets_of (branch_pieces P trees (map claim_of_term ts))) (map (term_targets P trees) (map claim_of_term ts))
       (front-told P term term.source fits.0.fits.parts.read)
       (pieces-told (suc index) ts fits.1 pieces.1 (AllHold-right (term_claims_at P trees list index (claim_of_term (terms.Wavefront front))) (claims-from (suc index) ts) hold))
+  pieces-told index (terms.Joint joint ∷ ts) fits pieces hold =
+      let P : AffineProgram = meaning program in
+      let term : JointTerm = joint_of joint in
+      cons-same (targets_of (joint_pieces P trees term)) (joint_targets P trees term)
+      (map targets_of (branch_pieces P trees (map claim_of_term ts))) (map (term_targets P trees) (map claim_of_term ts))
+      (joint-told P trees term term.families fits.0.fits.families)
+      (pieces-told (suc index) ts fits.1 pieces.1 (AllHold-right (term_claims_at P trees list index (claim_of_term (terms.Joint joint))) (claims-from (suc index) ts) hold))

@@ -3,7 +3,7 @@ use Rattle.std.specs.Prelude.{◌≡◌, ℕ, ◌-◌, ◌*◌, ◌/◌, ◌^◌
 use Rattle.std.specs.Global.{Global}
 use Rattle.std.specs.List.{AllByRecursion}
 use Rattle.iolb_model.specs.Form.{AffineForm}
-use Rattle.iolb_model.specs.Bound.{AreMet, Bound, BoundTerm, cold, wavefront, partition, StretchNumbers, branch_value, count_value, events_of, labels_of, points_of}
+use Rattle.iolb_model.specs.Bound.{AreMet, Bound, BoundTerm, cold, wavefront, partition, joint, StretchNumbers, branch_value, count_value, events_of, labels_of, points_of}
 use Rattle.affine_form.specs.System.{AffineSystem}
 use Rattle.affine_program.specs.Assumptions.{IsFirstUnmet}
 use Rattle.k_partition.specs.declared.term.PartitionBound.{PartitionBound}
@@ -12,7 +12,7 @@ use Rattle.poly_tree.specs.Expansion.{IsCanonical, at, size_at}
 use Rattle.poly_tree.specs.Poly.{Quotient, numerator_at}
 use Rattle.poly_tree.specs.Printed.{polynomial_of}
 use Rattle.iolb_check.specs.declared.bound.Value.{Value}
-use Rattle.iolb_check.specs.declared.bound.Value.TheVariants.{Cold, Partition, Wavefront}
+use Rattle.iolb_check.specs.declared.bound.Value.TheVariants.{Cold, Joint, Partition, Wavefront}
 use Rattle.iolb_check.specs.declared.value_fault.ValueFault.{ValueFault}
 use Rattle.iolb_check.specs.declared.value_fault.ValueFault.TheVariants.{OutsideAssumption, Wide}
 use Rattle.iolb_model.specs.declared.limits.TheConstants.{MEASURE}
@@ -27,6 +27,7 @@ abbrev pub term_of : Value → BoundTerm
 term_of (Cold count) = cold (polynomial_of count)
 term_of (Partition bound) = partition (polynomial_of bound.count) (polynomial_of bound.credits) (numbers_of bound)
 term_of (Wavefront pairs outer) = wavefront (polynomial_of pairs) (polynomial_of outer)
+term_of (Joint bound) = joint (polynomial_of bound.count) (polynomial_of bound.credits) (numbers_of bound)
 
 abbrev pub terms_of : List Value → List BoundTerm
 terms_of values = map term_of values
@@ -46,7 +47,7 @@ pub record IsCounting (assumed : AffineSystem) (polynomial : Quotient) : Type 0 
   pub whole : (values : List ℤ) → length values ≡ assumed.vars → AreMet assumed.rows values
       → (n : ℕ) × (numerator_at polynomial values ≡ pos n *ℤ pos polynomial.denominator)
 
--- the polynomials of a partition term's bound count something, and there is a greatest number of points of a stretch
+-- the polynomials of a partition or joint term's bound count something, and there is a greatest number of points of a stretch
 pub record IsStretching (assumed : AffineSystem) (bound : PartitionBound) : Type 0 where
   pub count : IsCounting assumed bound.count
   pub credits : IsCounting assumed bound.credits
@@ -57,6 +58,7 @@ abbrev pub IsTermValue : AffineSystem → Value → Type 0
 IsTermValue assumed (Cold count) = IsCounting assumed count
 IsTermValue assumed (Partition bound) = IsStretching assumed bound
 IsTermValue assumed (Wavefront pairs outer) = IsCounting assumed pairs × IsCounting assumed outer
+IsTermValue assumed (Joint bound) = IsStretching assumed bound
 
 -- what holds of each bound: its terms' polynomials count something
 abbrev pub IsBound : BoundParts → Type 0
@@ -80,7 +82,7 @@ AreWideLabels s numbers = 2 ^ 127 ≤ labels_of numbers s
 abbrev pub AreWideEvents : List ℤ → ℕ → Quotient → StretchNumbers → Type 0
 AreWideEvents sizes s count numbers = MEASURE ≤ events_of numbers s * ((count_value (polynomial_of count) sizes - 1) / points_of numbers s)
 
--- one of a partition term's polynomials is wide, or the labels of a stretch, or the events of all stretches
+-- one of the polynomials of a partition or joint term is wide, or the labels of a stretch, or the events of all stretches
 abbrev pub IsWidePartition : List ℤ → ℕ → PartitionBound → Type 0
 IsWidePartition sizes s bound =
     IsWideAt sizes bound.count ⊎ (IsWideAt sizes bound.credits ⊎ (AreWideLabels s (numbers_of bound) ⊎ AreWideEvents sizes s bound.count (numbers_of bound)))
@@ -90,6 +92,7 @@ abbrev pub IsWideTerm : List ℤ → ℕ → Value → Type 0
 IsWideTerm sizes s (Cold count) = IsWideAt sizes count
 IsWideTerm sizes s (Partition bound) = IsWidePartition sizes s bound
 IsWideTerm sizes s (Wavefront pairs outer) = IsWideAt sizes pairs ⊎ (IsWideAt sizes outer ⊎ IsWideTimes sizes s outer)
+IsWideTerm sizes s (Joint bound) = IsWidePartition sizes s bound
 
 -- one of the terms is wide
 abbrev pub HasWideTerm : List ℤ → ℕ → List Value → Type 0

@@ -5,6 +5,8 @@ use Rattle.affine_form.specs.Matrix.{IntegerMatrix}
 use Rattle.affine_form.specs.Multipliers.{FarkasMultipliers}
 use Rattle.poly_tree.specs.Poly.{Quotient}
 use Rattle.dep_quast.specs.Tree.{SelectionTree}
+use Rattle.joint_partition.specs.Term.{JointTerm}
+use Rattle.joint_partition.specs.View.{joint_of}
 use Rattle.k_partition.specs.Term.{PartitionTerm}
 use Rattle.k_partition.specs.View.{partition_of}
 use Rattle.reuse_paths.specs.LeafClaims.{LeafClaim, claim_of}
@@ -52,6 +54,7 @@ pub data TermClaim : Type 0 where
   cold : ColdClaim → List Quotient → TermClaim
   partition : PartitionTerm → TermClaim
   front : FrontClaim → List Quotient → List Quotient → TermClaim
+  joint : JointTerm → TermClaim
 
 -- a cold term of these claims with these polynomials
 abbrev pub cold_term : ColdClaim → List Quotient → ColdTerm
@@ -130,6 +133,7 @@ abbrev pub claim_of_term : Term → TermClaim
 claim_of_term (terms.Cold term) = cold (claim_of_cold term) term.sums.sums
 claim_of_term (terms.Partition term) = partition (partition_of term)
 claim_of_term (terms.Wavefront term) = front (claim_of_front term) term.sums.sums term.outer_sums.items
+claim_of_term (terms.Joint term) = joint (joint_of term)
 
 abbrev pub claim_of_branch : Branch → BranchClaim
 claim_of_branch branch = record { terms = map claim_of_term branch.terms.items; disjoint = branch.disjoint.items }

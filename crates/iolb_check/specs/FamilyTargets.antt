@@ -5,6 +5,7 @@ use Rattle.std.specs.List.{cons_option}
 use Rattle.iolb_model.specs.Program.{AffineProgram, statement_at}
 use Rattle.dep_quast.specs.Context.{reference_of}
 use Rattle.dep_quast.specs.Tree.{Leaf, source, input, empty, blank, SelectionTree, leaf, test}
+use Rattle.joint_partition.specs.Term.{JointFamily, JointTerm, PartTerm, StartTerm, WayTerm}
 use Rattle.k_partition.specs.Term.{PartitionTerm}
 use Rattle.footprint_pieces.specs.declared.piece.Target.{Target}
 use Rattle.footprint_pieces.specs.declared.piece.Target.TheVariants.{Cell, Instance}
@@ -70,3 +71,20 @@ family_targets program trees statement family =
 -- those of a partition term's families, family by family
 abbrev pub partition_targets : AffineProgram → List (List SelectionTree) → PartitionTerm → List Target
 partition_targets program trees term = flat_map (family_targets program trees term.statement) term.families
+
+-- those of the walks of a joint term's family from parts, and of the regions of a way
+abbrev pub starts_targets : AffineProgram → List (List SelectionTree) → List PartTerm → List StartTerm → List Target
+starts_targets program trees [] starts = []
+starts_targets program trees (part ∷ parts) [] = []
+starts_targets program trees (part ∷ parts) (start ∷ starts) = walk_targets program trees part.statement start.tree ++ starts_targets program trees parts starts
+
+abbrev pub way_targets : AffineProgram → List (List SelectionTree) → WayTerm → List Target
+way_targets program trees way = regions_targets program trees 0 way.regions
+
+-- those of a family: of its starts by part, then of its ways
+abbrev pub group_family_targets : AffineProgram → List (List SelectionTree) → List PartTerm → JointFamily → List Target
+group_family_targets program trees parts family = starts_targets program trees parts family.starts ++ flat_map (way_targets program trees) family.ways
+
+-- those of a joint term's families, family by family
+abbrev pub joint_targets : AffineProgram → List (List SelectionTree) → JointTerm → List Target
+joint_targets program trees term = flat_map (group_family_targets program trees term.parts) term.families

@@ -4,6 +4,11 @@ use Rattle.std.specs.List.{AllByRecursion}
 use Rattle.affine_program.specs.Parts.{ProgramParts, meaning}
 use Rattle.dep_quast.specs.Tree.{SelectionTree}
 use Rattle.domain_count.specs.Claims.{FitsCount}
+use Rattle.joint_partition.specs.declared.term.Joint.{Joint}
+use Rattle.joint_partition.specs.FamiliesFit.{FitsJoint}
+use Rattle.joint_partition.specs.JointNumbers.{FitsNumbers}
+use Rattle.joint_partition.specs.JointPieces.{HasJointPieces}
+use Rattle.joint_partition.specs.View.{joint_of}
 use Rattle.k_partition.specs.declared.term.Partition.{Partition}
 use Rattle.k_partition.specs.PartitionFits.{PartitionFits}
 use Rattle.k_partition.specs.PartitionPieces.{HasPartitionPieces}
@@ -47,10 +52,17 @@ pub record PartitionTermFits (program : ProgramParts) (trees : List (List Select
   pub matrices : FitsMatrices partition
   pub light : weight_of (partition_of partition) ≤ WEIGHTS
 
+-- a joint term fits a program and the source trees, and its numbers are few
+pub record JointTermFits (program : ProgramParts) (trees : List (List SelectionTree)) (joint : Joint) : Type 0 where
+  pub fits : FitsJoint program trees joint
+  pub numbers : FitsNumbers (joint_of joint)
+  pub positive : 1 ≤ joint.q
+
 abbrev pub TermFits : ProgramParts → List (List SelectionTree) → Term → Type 0
 TermFits program trees (terms.Cold cold) = ColdTermFits program trees cold
 TermFits program trees (terms.Partition partition) = PartitionTermFits program trees partition
 TermFits program trees (terms.Wavefront front) = FrontTermFits program trees front
+TermFits program trees (terms.Joint joint) = JointTermFits program trees joint
 
 -- a branch fits: each of its terms does, and there are multipliers for each pair of their pieces with one target
 pub record BranchFits (program : ProgramParts) (trees : List (List SelectionTree)) (branch : Branch) : Type 0 where
@@ -65,6 +77,7 @@ abbrev pub HasPieces : ProgramParts → List (List SelectionTree) → Term → T
 HasPieces program trees (terms.Cold cold) = ColdTermFits program trees cold × LeavesAreFew (meaning program) (tree_for trees (term_of cold).reader) (term_of cold)
 HasPieces program trees (terms.Partition partition) = FitsPartition program trees partition × HasPartitionPieces (meaning program) trees (partition_of partition)
 HasPieces program trees (terms.Wavefront front) = FrontPartsFit (meaning program) (front_of front)
+HasPieces program trees (terms.Joint joint) = FitsJoint program trees joint × HasJointPieces (meaning program) trees (joint_of joint)
 
 -- Where a certificate fits a program, so do its source trees and its terms.
 pub record PartsFit (program : ProgramParts) (parts : CertificateParts) : Type 0 where

@@ -7,6 +7,7 @@ pub mod FamilyTargets
 pub mod PairFit
 pub mod FrontFit
 pub mod PartitionFit
+pub mod JointFit
 pub mod TermFit
 pub mod Fit
 pub mod Sound

@@ -2,6 +2,7 @@
 use Rattle.std.specs.Prelude.{◌+◌, ◌≤◌, List, length, map, option_map}
 use Rattle.std.specs.List.{AllByRecursion}
 use Rattle.dep_quast.specs.Tree.{tree_of}
+use Rattle.joint_partition.specs.Limits.{IsSmallJoint}
 use Rattle.k_partition.specs.declared.term.Partition.{Partition}
 use Rattle.k_partition.specs.TermLoads.{weight_of}
 use Rattle.k_partition.specs.View.{partition_of}
@@ -73,6 +74,7 @@ abbrev pub IsSmallTerm : Term → Type 0
 IsSmallTerm (terms.Cold cold) = IsSmallCold cold
 IsSmallTerm (terms.Partition partition) = IsSmallPartition partition
 IsSmallTerm (terms.Wavefront front) = IsSmallFront front
+IsSmallTerm (terms.Joint joint) = IsSmallJoint joint
 
 -- a branch: 16 terms at most
 pub record IsSmallBranch (branch : Branch) : Type 0 where

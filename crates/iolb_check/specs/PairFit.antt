@@ -16,8 +16,8 @@ use Rattle.footprint_pieces.specs.TargetPairs.{pairwise_targets}
 use Rattle.wavefront.specs.Term.{ColdTerm}
 use Rattle.reuse_paths.specs.Walks.{SpotForms}
 use Rattle.wavefront.specs.FrontTerm.{WavefrontTerm, user_read}
-use Rattle.iolb_check.specs.Claims.{TermClaim, cold, partition, front, cold_term, front_term, BranchClaim}
-use Rattle.iolb_check.specs.FamilyTargets.{leaf_targets, partition_targets}
+use Rattle.iolb_check.specs.Claims.{TermClaim, cold, partition, front, joint, cold_term, front_term, BranchClaim}
+use Rattle.iolb_check.specs.FamilyTargets.{joint_targets, leaf_targets, partition_targets}
 use Rattle.certificate_fit.specs.PartFit.{shown_fit}
 
 -- those of the leaves at which the entries say that a walk stops
@@ -46,6 +46,7 @@ abbrev pub term_targets : AffineProgram → List (List SelectionTree) → TermCl
 term_targets program trees (cold claim sums) = cold_targets program trees (cold_term claim sums)
 term_targets program trees (partition term) = partition_targets program trees term
 term_targets program trees (front claim sums outer_sums) = front_targets program (front_term claim sums outer_sums) claim.source
+term_targets program trees (joint term) = joint_targets program trees term
 
 -- as many multipliers as pairs of one target of the terms
 abbrev pub disjoint_fit : AffineProgram → List (List SelectionTree) → List Step → BranchClaim → Claim

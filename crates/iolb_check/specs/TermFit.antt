@@ -8,8 +8,9 @@ use Rattle.affine_program.specs.Domain.{depth_of, domain_size}
 use Rattle.dep_quast.specs.Context.{reference_of}
 use Rattle.dep_quast.specs.Tree.{SelectionTree}
 use Rattle.wavefront.specs.Term.{ColdTerm}
-use Rattle.iolb_check.specs.Claims.{TermClaim, cold, partition, front, cold_term, front_term, BranchClaim, CertificateClaim}
+use Rattle.iolb_check.specs.Claims.{TermClaim, cold, partition, front, joint, cold_term, front_term, BranchClaim, CertificateClaim}
 use Rattle.iolb_check.specs.FrontFit.{front_fit}
+use Rattle.iolb_check.specs.JointFit.{joint_fit}
 use Rattle.claims.specs.Claims.{Claim, numbered}
 use Rattle.certificate_fit.specs.EntryFit.{entries_fit, leaf_names}
 use Rattle.certificate_fit.specs.FitClaims.{so_many, names}
@@ -51,6 +52,7 @@ abbrev pub term_fit : AffineProgram → List (List SelectionTree) → List Step 
 term_fit program trees place (cold claim sums) = cold_fit program trees (place ++ Key (codes "cold") ∷ []) (cold_term claim sums)
 term_fit program trees place (partition term) = partition_fit program trees (place ++ Key (codes "partition") ∷ []) term
 term_fit program trees place (front claim sums outer_sums) = front_fit program trees (place ++ Key (codes "wavefront") ∷ []) (front_term claim sums outer_sums)
+term_fit program trees place (joint term) = joint_fit program trees (place ++ Key (codes "joint") ∷ []) term
 
 -- the terms of a branch
 abbrev pub term_at : AffineProgram → List (List SelectionTree) → List Step → ℕ → TermClaim → List Claim

@@ -18,6 +18,8 @@ pub enum Value {
     Partition(PartitionBound),
     /// Of a wavefront term: how many words it names, and for how many vertices.
     Wavefront { pairs: Poly, outer: Poly },
+    /// Of a joint term: how many images it has and how many instances are credited, and the numbers of its stretches.
+    Joint(PartitionBound),
 }
 
 /// A bound on the loads of a program: the assumptions about its parameters, and branches, each with its terms' values.

@@ -18,13 +18,14 @@ pub struct Certificate {
 impl Model for Certificate {
     ghost use Rattle.iolb_check.specs.Limits.{CertificateParts, IsWithinLimits};
     ghost use Rattle.dep_quast.specs.contracts.quast.Quast as quast;
+    ghost use Rattle.joint_partition.specs.contracts.term.Split as split;
     ghost use Rattle.poly_tree.specs.Stored.{quotient_code};
     ghost use Rattle.reuse_paths.specs.contracts.walk.Walk as walk;
     ghost use Rattle.std.specs.Coded.{codes};
 
     ghost Value = { CertificateParts };
 
-    ghost coded = { Prim.hlevel (codes, quast.the_row.coded, walk.the_row.coded, quotient_code) };
+    ghost coded = { Prim.hlevel (codes, quast.the_row.coded, split.the_row.coded, walk.the_row.coded, quotient_code) };
 
     ghost view = { λ certificate. record { quasts = certificate.quasts; branches = certificate.branches.items } };
 

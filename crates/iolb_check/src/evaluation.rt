@@ -24,7 +24,7 @@ impl Bound {
     ///
     /// `OutsideAssumption` names the first assumption that is false at the sizes. `Wide` comes where all are true, exactly
     /// where in some branch the terms of a polynomial, each coefficient's size times the powers of the variables' sizes,
-    /// reach 2^126 in sum, or s times the vertices of a wavefront term do, or the events of a partition term's stretches, or
+    /// reach 2^126 in sum, or s times the vertices of a wavefront term do, or the events of a term's stretches, or
     /// the branch's value; or where the labels of a stretch, to the power of the weights, reach 2^127.
     pub fn value(&self, sizes: &[i64], s: u64) -> Result<u128, ValueFault>
         requires each { length sizes.now ≡ self.now.assumed.vars }
@@ -134,7 +134,7 @@ fn value_of(term: &Value, assumed: &System, point: &[i128], s: u64) -> Result<u1
 {
     let value = match term {
         Value::Cold(count) => count_at(count, assumed, point)?,
-        Value::Partition(bound) => partition_at(bound, assumed, point, s)?,
+        Value::Partition(bound) | Value::Joint(bound) => partition_at(bound, assumed, point, s)?,
         Value::Wavefront { pairs, outer } => {
             let words = count_at(pairs, assumed, point)?;
             let red = red_at(outer, assumed, point, u128::from(s))?;

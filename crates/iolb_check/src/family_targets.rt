@@ -10,7 +10,7 @@ ghost use Rattle.reuse_paths.specs.Families.{boxed_node, family_of, node_region}
 ghost use Rattle.reuse_paths.specs.LeafClaims.{claim_of};
 ghost use Rattle.dep_quast.specs.Quasts.{trees_of};
 ghost use Rattle.footprint_pieces.specs.TargetPairs.{items_of};
-ghost use Rattle.reuse_paths.specs.Walks.{take, tree_of_walk};
+ghost use Rattle.reuse_paths.specs.Walks.{boxed_region, take, tree_of_walk};
 
 use crate::fit_pairs::push_leaf_targets;
 use affine_form::Memory;
@@ -19,7 +19,7 @@ use certificate_fit::counts::read_count;
 use dep_quast::Quast;
 use dep_quast::reader::{Reader, reference};
 use k_partition::Partition;
-use reuse_paths::{Family, FamilyNode, Leaf, Quasts, Target, Walk};
+use reuse_paths::{Family, FamilyNode, Leaf, Quasts, Region, Target, Walk};
 use std::alloc::Global;
 
 /// The targets of the pieces of a partition term, family by family.
@@ -97,14 +97,13 @@ fn push_regions_targets(
     ensures { OnOk result (targets.new.items ≡ targets.old.items ++ regions_targets (meaning program.now) (trees_of quasts.now) 0 (map node_region (map (option_map boxed_node) nodes.now))) }
 {
     for (number, node) in nodes.iter().enumerate() {
-        push_region_targets(alloc, targets, program, quasts, number, node)?;
+        push_node_targets(alloc, targets, program, quasts, number, node)?;
     }
     Ok(())
 }
 
-/// The targets of the pieces of the region of the statement with this number, if it has one, appended. A statement that isn't
-/// there has no reads.
-fn push_region_targets(
+/// The targets of the pieces of the region that a family has for the statement with this number, if it has one, appended.
+fn push_node_targets(
     alloc: Global,
     targets: &mut Vec<Target>,
     program: &Program,
@@ -114,13 +113,28 @@ fn push_region_targets(
 ) -> Result<(), Memory>
     ensures { OnOk result (targets.new.items ≡ targets.old.items ++ region_targets (meaning program.now) (trees_of quasts.now) number (node_region (option_map boxed_node node.now))) }
 {
+    match node {
+        Some(node) => push_region_targets(alloc, targets, program, quasts, number, &node.region),
+        None => Ok(()),
+    }
+}
+
+/// The targets of the pieces of the region of the statement with this number, if it has one, appended. A statement that isn't
+/// there has no reads.
+pub(crate) fn push_region_targets(
+    alloc: Global,
+    targets: &mut Vec<Target>,
+    program: &Program,
+    quasts: &Quasts,
+    number: usize,
+    region: &Option<Box<Region>>,
+) -> Result<(), Memory>
+    ensures { OnOk result (targets.new.items ≡ targets.old.items ++ region_targets (meaning program.now) (trees_of quasts.now) number (option_map boxed_region region.now)) }
+{
     if number >= program.statements().len() {
         return Ok(());
     }
-    let Some(node) = node else {
-        return Ok(());
-    };
-    match &node.region {
+    match region {
         Some(region) => {
             push_walk_targets(alloc, targets, program, quasts, number as u16, &region.tree)
         }
@@ -129,7 +143,7 @@ fn push_region_targets(
 }
 
 /// The targets of the pieces of a walk from the instances of a statement, appended.
-fn push_walk_targets(
+pub(crate) fn push_walk_targets(
     alloc: Global,
     targets: &mut Vec<Target>,
     program: &Program,

@@ -11,6 +11,7 @@ ghost use Rattle.iolb_check.specs.Claims.{claim_of_term, claim_of_branch};
 
 use crate::fit_colds::cold_fits;
 use crate::fit_fronts::front_fits;
+use crate::fit_joints::joint_fits;
 use crate::fit_pairs::branch_targets;
 use crate::fit_partitions::partition_fits;
 use crate::{Branch, Term};
@@ -43,6 +44,10 @@ fn term_fits(
         Term::Wavefront(front) => {
             let at = place.within(alloc, Step::Key(ObjectKey("wavefront")))?;
             front_fits(alloc, program, quasts, &at, front)
+        }
+        Term::Joint(joint) => {
+            let at = place.within(alloc, Step::Key(ObjectKey("joint")))?;
+            joint_fits(alloc, program, quasts, &at, joint)
         }
     }
 }

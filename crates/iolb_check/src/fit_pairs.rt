@@ -13,6 +13,7 @@ ghost use Rattle.wavefront.specs.View.{front_of, term_of};
 
 use crate::Term;
 use crate::family_targets::targets_of_partition;
+use crate::joint_targets::targets_of_joint;
 use affine_form::Memory;
 use affine_program::Program;
 use certificate_fit::counts::read_count;
@@ -51,6 +52,7 @@ fn targets_of_term(
         Term::Cold(cold) => targets_of_cold(alloc, program, quasts, cold),
         Term::Partition(partition) => targets_of_partition(alloc, program, quasts, partition),
         Term::Wavefront(front) => target_of_front(alloc, program, front),
+        Term::Joint(joint) => targets_of_joint(alloc, program, quasts, joint),
     }
 }
 

@@ -15,6 +15,7 @@ use crate::term::{Branch, Term};
 use affine_form::Memory;
 use affine_program::Program;
 use claims::{ObjectKey, Place, Refused, Step};
+use joint_partition::joint_pieces;
 use k_partition::partition_pieces;
 use reuse_paths::{Piece, Quasts, disjoint_pieces_are_apart, lists_shown};
 use std::alloc::Global;
@@ -93,5 +94,6 @@ fn pieces_of_term(
         Term::Cold(cold) => cold_pieces(alloc, program, quasts, cold),
         Term::Partition(partition) => partition_pieces(alloc, program, quasts, partition),
         Term::Wavefront(front) => front_pieces(alloc, program, front),
+        Term::Joint(joint) => joint_pieces(alloc, program, quasts, joint),
     }
 }

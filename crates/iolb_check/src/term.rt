@@ -1,6 +1,7 @@
 //! Branches of certificates, and their terms.
 
 use affine_form::Multipliers;
+use joint_partition::Joint;
 use k_partition::Partition;
 use wavefront::{Cold, Wavefront};
 
@@ -13,6 +14,9 @@ pub enum Term {
     Partition(Partition),
     /// Words that are there when vertices are computed, and are used behind them.
     Wavefront(Wavefront),
+    /// Points of several statements, or of one under several images, whose words are reused along walks, and so many of their
+    /// images as go into a stretch of moves.
+    Joint(Joint),
 }
 
 /// A branch of a certificate: terms, and multipliers which show that no two of them count a word that the other counts.

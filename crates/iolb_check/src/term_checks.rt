@@ -5,6 +5,8 @@ ghost use Rattle.affine_program.specs.Parts.{meaning};
 ghost use Rattle.claims.specs.Claims.{AllHold, IsRefusal};
 ghost use Rattle.claims.specs.declared.place.Step.TheVariants.{Key, Index};
 ghost use Rattle.domain_count.specs.Count.{IsCount, IsSumFrom};
+ghost use Rattle.joint_partition.specs.Claims.{joint_claims};
+ghost use Rattle.joint_partition.specs.View.{joint_of};
 ghost use Rattle.k_partition.specs.PartitionClaims.{partition_claims};
 ghost use Rattle.k_partition.specs.View.{partition_of};
 ghost use Rattle.dep_quast.specs.Quasts.{tree_for, trees_of};
@@ -14,9 +16,9 @@ ghost use Rattle.wavefront.specs.FrontClaims.{front_claims};
 ghost use Rattle.wavefront.specs.FrontTerm.{outer_nest};
 ghost use Rattle.wavefront.specs.View.{front_of, term_of};
 ghost use Rattle.iolb_check.specs.Claims.{claim_of_term};
-ghost use Rattle.iolb_check.specs.Fit.{ColdTermFits, FrontTermFits, HasPieces, PartitionTermFits, TermFits};
+ghost use Rattle.iolb_check.specs.Fit.{ColdTermFits, FrontTermFits, HasPieces, JointTermFits, PartitionTermFits, TermFits};
 ghost use Rattle.iolb_check.specs.Sound.{IsSound};
-ghost use Rattle.iolb_check.specs.Conditions.{IsPartitionValue, IsValueOf, term_claims_at};
+ghost use Rattle.iolb_check.specs.Conditions.{IsJointValue, IsPartitionValue, IsValueOf, term_claims_at};
 ghost use Rattle.iolb_check.specs.Holds.{TermHolds};
 
 use crate::bound::Value;
@@ -24,6 +26,8 @@ use crate::term::Term;
 use affine_form::Memory;
 use affine_program::Program;
 use claims::{ObjectKey, Place, Refused, Step};
+use joint_partition::values::joint_numbers_are_one;
+use joint_partition::{Joint, check_joint};
 use k_partition::{Partition, PartitionBound, check_partition};
 use poly_tree::Poly;
 use reuse_paths::Quasts;
@@ -65,6 +69,10 @@ pub(crate) fn check_term(
         Term::Wavefront(front) => {
             let (pairs, outer) = check_front_term(alloc, program, quasts, place, index, front)?;
             Ok(Value::Wavefront { pairs, outer })
+        }
+        Term::Joint(joint) => {
+            let bound = check_joint_term(alloc, program, quasts, place, index, joint)?;
+            Ok(Value::Joint(bound))
         }
     }
 }
@@ -157,4 +165,31 @@ fn check_front_term(
     };
     let counts = check_wavefront(alloc, program, quasts, front, &place)?;
     Ok(counts)
+}
+
+/// The bound of the joint term that stands in a list at a place.
+fn check_joint_term(
+    alloc: Global,
+    program: &Program,
+    quasts: &Quasts,
+    place: &Place,
+    index: usize,
+    joint: &Joint,
+) -> Result<PartitionBound, Refused>
+    requires fits { JointTermFits program.now (trees_of quasts.now) joint.now }
+    requires are_true { RowsAreTrue (meaning program.now) 0 (trees_of quasts.now) }
+    ensures accepted { IfOk result (λ bound. AllHold (joint_claims (meaning program.now) (trees_of quasts.now) ((place.now ++ Index index ∷ []) ++ Key (codes "joint") ∷ []) (joint_of joint.now))) }
+    ensures value { IfOk result (λ bound. IsJointValue (meaning program.now) (joint_of joint.now) bound) }
+    ensures holds { IfOk result (λ bound. TermHolds program.now (trees_of quasts.now) (Term.Joint joint.now) (Value.Joint bound)) }
+    ensures pieces { OnOk result (HasPieces program.now (trees_of quasts.now) (Term.Joint joint.now)) }
+    ensures sound { OnOk result (IsSound program.now (Term.Joint joint.now)) }
+    ensures refused { IfErr result (IsRefusal (joint_claims (meaning program.now) (trees_of quasts.now) ((place.now ++ Index index ∷ []) ++ Key (codes "joint") ∷ []) (joint_of joint.now))) }
+{
+    let _params = program.params();
+    joint_numbers_are_one();
+    let Ok(place) = term_place(alloc, place, index, ObjectKey("joint")) else {
+        return Err(Refused::Memory);
+    };
+    let bound = check_joint(alloc, program, quasts, joint, &place)?;
+    Ok(bound)
 }

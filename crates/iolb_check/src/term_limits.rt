@@ -13,6 +13,7 @@ use crate::term::{Branch, Term};
 use certificate_fit::part_limits::{are_small, are_small_polynomials, name_rows, nest_is_small};
 use certificate_fit::walk_limits::{are_small_leaves, is_small_reach, is_small_spot, is_small_way};
 use iolb_model::limits;
+use joint_partition::small::is_small_joint;
 use wavefront::{Cold, Wavefront};
 
 /// Whether a scale is within its limits.
@@ -80,6 +81,7 @@ fn is_small_term(term: &Term) -> bool
         Term::Cold(cold) => is_small_cold(cold),
         Term::Partition(partition) => is_small_partition(partition),
         Term::Wavefront(front) => is_small_front(front),
+        Term::Joint(joint) => is_small_joint(joint),
     }
 }
 

@@ -11,8 +11,8 @@ pub record IsAdmitted (program : AffineProgram) (values : List ℤ) : Type 0 whe
   pub each : length values ≡ length program.parameters
   pub met : AreMet program.assumptions values
 
--- The numbers of a partition term: a stretch of moves has a * S + b events; over T of them, labels of S + T words at most
--- are there for each family of reused words, and the cover inequality bounds the points among them by these weights.
+-- The numbers of a partition or a joint term: a stretch of moves has a * S + b events; over T of them, labels of S + T words at
+-- most are there for each family of reused words, and the cover inequality bounds the points among them by these weights.
 pub record StretchNumbers : Type 0 where
   pub a : ℕ
   pub b : ℕ
@@ -25,11 +25,13 @@ pub record StretchNumbers : Type 0 where
 -- term has the number of words that are there when certain vertices are computed, and the number of these vertices: S of
 -- the words may be red at each, and the others are loaded later (Elango et al. 2014, by loads alone). A partition term has
 -- the number of certain instances, that of others whose computations aren't counted, and the numbers of its stretches: so
--- many of the instances at most are computed in a stretch (Hong and Kung 1981).
+-- many of the instances at most are computed in a stretch (Hong and Kung 1981). A joint term has the same of images of instances:
+-- several statements are counted in one space, or an instance under several images.
 pub data BoundTerm : Type 0 where
   cold : Polynomial → BoundTerm
   wavefront : Polynomial → Polynomial → BoundTerm
   partition : Polynomial → Polynomial → StretchNumbers → BoundTerm
+  joint : Polynomial → Polynomial → StretchNumbers → BoundTerm
 
 -- the program's assumptions, and branches, each a list of terms
 pub record Bound : Type 0 where
@@ -56,12 +58,18 @@ labels_of numbers s = numbers.num * (s + events_of numbers s) ^ numbers.m
 abbrev pub points_of : StretchNumbers → ℕ → ℕ
 points_of numbers s = greatest_up_to numbers.q numbers.den (labels_of numbers s) (labels_of numbers s)
 
--- The value of a term with S red pebbles. Of a partition term the last of its instances may be in a stretch that isn't whole.
+-- the events of the stretches that so many points fill, but for those of the credits: the last of the points may be in a stretch
+-- that isn't whole
+abbrev pub stretch_value : Polynomial → Polynomial → StretchNumbers → List ℤ → ℕ → ℕ
+stretch_value count credits numbers values s =
+    events_of numbers s * ((count_value count values - 1) / points_of numbers s) - count_value credits values
+
+-- The value of a term with S red pebbles.
 abbrev pub term_value : BoundTerm → List ℤ → ℕ → ℕ
 term_value (cold count) values s = count_value count values
 term_value (wavefront pairs outer) values s = count_value pairs values - s * count_value outer values
-term_value (partition count credits numbers) values s =
-    events_of numbers s * ((count_value count values - 1) / points_of numbers s) - count_value credits values
+term_value (partition count credits numbers) values s = stretch_value count credits numbers values s
+term_value (joint count credits numbers) values s = stretch_value count credits numbers values s
 
 -- the value of a branch is the sum of its terms' values
 abbrev pub branch_value : List BoundTerm → List ℤ → ℕ → ℕ

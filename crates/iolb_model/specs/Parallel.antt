@@ -3,8 +3,9 @@
 use Rattle.std.specs.Prelude.{ℕ, ◌+◌, ◌-◌, ◌*◌, ◌/◌, ◌<◌, ◌≤◌, nat_eq, max, Bool, IsTrue, ⊤, ℤ, List, [], ◌∷◌, map, filter, fold, length, sum, replicate, slice_set, slice_index_or}
 use Rattle.iolb_model.specs.Program.{AffineProgram}
 use Rattle.iolb_model.specs.Graph.{ComputationGraph, computation_graph}
+use Rattle.iolb_model.specs.Polynomial.{Polynomial}
 use Rattle.iolb_model.specs.Game.{Board, marked, first_board, IsAllowed, board_after, loads}
-use Rattle.iolb_model.specs.Bound.{IsAdmitted, BoundTerm, cold, wavefront, partition, Bound, count_value, events_of, points_of, term_value}
+use Rattle.iolb_model.specs.Bound.{IsAdmitted, BoundTerm, StretchNumbers, cold, wavefront, partition, joint, Bound, count_value, events_of, points_of, term_value}
 use Rattle.iolb_model.specs.declared.game.Move.{Move}
 
 -- a move, and the processor that makes it
@@ -66,18 +67,25 @@ moves_by processor steps =
 abbrev pub ceiling : ℕ → ℕ → ℕ
 ceiling number parts = (number + (parts - 1)) / parts
 
--- The own part of a term: what the processor loads that computes at least its share of a partition term's instances.
+-- what the processor loads that computes at least its share of so many points: the events of the stretches that this share fills,
+-- but for those of the credits
+abbrev pub own_stretches : Polynomial → Polynomial → StretchNumbers → List ℤ → ℕ → ℕ → ℕ
+own_stretches count credits numbers values processors s =
+    events_of numbers s * ((ceiling (count_value count values) processors - 1) / points_of numbers s) - count_value credits values
+
+-- The own part of a term: that of the instances of a partition term, and of the images of a joint one.
 abbrev pub own_part : BoundTerm → List ℤ → ℕ → ℕ → ℕ
 own_part (cold count) values processors s = 0
 own_part (wavefront pairs outer) values processors s = 0
-own_part (partition count credits numbers) values processors s =
-    events_of numbers s * ((ceiling (count_value count values) processors - 1) / points_of numbers s) - count_value credits values
+own_part (partition count credits numbers) values processors s = own_stretches count credits numbers values processors s
+own_part (joint count credits numbers) values processors s = own_stretches count credits numbers values processors s
 
 -- The shared part of a term: what all processors load together, whose red pebbles are as those of one processor.
 abbrev pub shared_part : BoundTerm → List ℤ → ℕ → ℕ → ℕ
 shared_part (cold count) values processors s = term_value (cold count) values (processors * s)
 shared_part (wavefront pairs outer) values processors s = term_value (wavefront pairs outer) values (processors * s)
 shared_part (partition count credits numbers) values processors s = 0
+shared_part (joint count credits numbers) values processors s = 0
 
 -- The value of a branch: the greatest of its own parts and of each processor's share of the shared parts.
 abbrev pub parallel_branch_value : List BoundTerm → List ℤ → ℕ → ℕ → ℕ

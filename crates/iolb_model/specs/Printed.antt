@@ -4,7 +4,7 @@ use Rattle.std.specs.List.{join_by}
 use Rattle.std.specs.Ordering.{int_eq}
 use Rattle.iolb_model.specs.Form.{AffineForm}
 use Rattle.iolb_model.specs.Polynomial.{Term, Polynomial}
-use Rattle.iolb_model.specs.Bound.{Bound, BoundTerm, cold, wavefront, partition, StretchNumbers}
+use Rattle.iolb_model.specs.Bound.{Bound, BoundTerm, cold, wavefront, partition, joint, StretchNumbers}
 
 -- whether a number is below 0
 abbrev pub is_below_zero : ℤ → Bool
@@ -54,19 +54,24 @@ polynomial_text names polynomial =
     let sum = terms_text (map (λ (term : Term). (term.coefficient, product_text names term.exponents)) polynomial.terms)
     in if polynomial.denominator == 1 then sum else codes "(" ++ sum ++ codes ")/" ++ decimal polynomial.denominator
 
--- the numbers of a partition term's stretches
+-- the numbers of stretches
 abbrev pub stretch_text : StretchNumbers → List ℕ
 stretch_text numbers =
     codes " T " ++ decimal numbers.a ++ codes "*S + " ++ decimal numbers.b ++ codes " U^" ++ decimal numbers.q ++ codes "*" ++ decimal numbers.den
     ++ codes " <= " ++ decimal numbers.num ++ codes "*(S + T)^" ++ decimal numbers.m
+
+-- the counts and the numbers of a term over stretches
+abbrev pub counted_text : List (List ℕ) → Polynomial → Polynomial → StretchNumbers → List ℕ
+counted_text names count credits numbers =
+    codes " count " ++ polynomial_text names count ++ codes " credits " ++ polynomial_text names credits ++ stretch_text numbers ++ codes "\n"
 
 -- a term of a bound, on a line
 abbrev pub bound_term_text : List (List ℕ) → BoundTerm → List ℕ
 bound_term_text names (cold count) = codes "  cold " ++ polynomial_text names count ++ codes "\n"
 bound_term_text names (wavefront pairs outer) =
     codes "  wavefront " ++ polynomial_text names pairs ++ codes " - S*(" ++ polynomial_text names outer ++ codes ")\n"
-bound_term_text names (partition count credits numbers) =
-    codes "  partition count " ++ polynomial_text names count ++ codes " credits " ++ polynomial_text names credits ++ stretch_text numbers ++ codes "\n"
+bound_term_text names (partition count credits numbers) = codes "  partition" ++ counted_text names count credits numbers
+bound_term_text names (joint count credits numbers) = codes "  joint" ++ counted_text names count credits numbers
 
 -- the branches from this number on: a line with the number, then the terms
 abbrev pub branches_text : List (List ℕ) → ℕ → List (List BoundTerm) → List ℕ

@@ -9,9 +9,9 @@ use Rattle.dep_quast.specs.Tree.{SelectionTree}
 use Rattle.dep_quast.specs.Trees.{RowsAreTrue, RowsFit}
 use Rattle.k_partition.specs.PartitionClaims.{credit_claims}
 use Rattle.joint_partition.specs.Claims.{apart_claims_of, cover_claims, distinct_claims, families_claims, joint_claims, parts_claims}
-use Rattle.joint_partition.specs.JointCosts.{JointClaimsCost, JointClaimsCostInRuns, JointFits}
+use Rattle.joint_partition.specs.JointCosts.{JointClaimsAreSound, JointClaimsCost, JointFits}
 use Rattle.joint_partition.specs.JointFits.{ArePartsSound, JointFamiliesAreSound, JointGroupsAreApart, PartsAreSound}
-use Rattle.joint_partition.specs.JointLoads.{JointTermsAreLoaded, JointTermsAreLoadedInRuns}
+use Rattle.joint_partition.specs.JointLoads.{JointTermsAreLoaded}
 use Rattle.joint_partition.specs.JointWords.{AreGroupsApart, IsSoundJointTerm}
 use Rattle.joint_partition.specs.Term.{JointTerm}
 
@@ -67,10 +67,11 @@ module _ (parts-law : PartsAreSound) (families-law : JointFamiliesAreSound) (gro
       groups-law program trees term place parameters formed trees-fit trees-true fits.groups sound-parts.parts holds-families
       (AllHold-right (parts ++ images ++ credits ++ cover ++ families) apart holds) admitted
 
-pub joint-claims-cost-in-runs : PartsAreSound → JointFamiliesAreSound → JointGroupsAreApart → JointTermsAreLoadedInRuns → JointClaimsCostInRuns
-joint-claims-cost-in-runs of_parts of_families of_groups loaded program trees term place numbers parameters s n red moves formed trees-fit trees-true fits holds has admitted run few =
-    loaded program term numbers parameters s n red moves formed admitted (sound of_parts of_families of_groups program trees term place formed trees-fit trees-true fits holds)
-    (groups-apart of_parts of_families of_groups program trees term place formed trees-fit trees-true fits holds parameters admitted) has run few
+pub joint-claims-are-sound : PartsAreSound → JointFamiliesAreSound → JointGroupsAreApart → JointClaimsAreSound
+joint-claims-are-sound of_parts of_families of_groups program trees term place formed trees-fit trees-true fits holds = (
+  sound of_parts of_families of_groups program trees term place formed trees-fit trees-true fits holds,
+  groups-apart of_parts of_families of_groups program trees term place formed trees-fit trees-true fits holds,
+)
 
 pub joint-claims-cost : PartsAreSound → JointFamiliesAreSound → JointGroupsAreApart → JointTermsAreLoaded → JointClaimsCost
 joint-claims-cost of_parts of_families of_groups loaded program trees term place numbers parameters s moves formed trees-fit trees-true fits holds has admitted game =

@@ -9,6 +9,7 @@ use Rattle.std.proofs.lemmas.List.FromFn.{map-range_with_len_more}
 use Rattle.std.proofs.lemmas.List.Sums.{sum_by-cons, sum_by-le-sum_by, sum_by-take-le, sum_by_more_le_part}
 use Rattle.std.proofs.lemmas.Nat.{pow-add}
 use Rattle.base_laws.proofs.Lists.{All-take, add-one}
+use Rattle.k_partition.proofs.OwnPowers.{own-rises, powers-within}
 use Rattle.uniform_cover.specs.Products.{product_by}
 use Rattle.uniform_cover.proofs.ProductLemmas.{product_by-append, product_by-map}
 use Rattle.joint_partition.specs.declared.term.JointFamily.{JointFamily as Family}
@@ -121,24 +122,8 @@ groups-within (family ∷ families) a n =
       sum_by-cons (λ (f : Family). f.weight) family families,
     )
 
--- the product of numbers raised to themselves is at most their sum raised to itself
-powers-within : (of : ℕ → ℕ) (xs : List ℕ) → product_by (λ (x : ℕ). of x ^ of x) xs ≤ sum_by of xs ^ sum_by of xs
-powers-within of [] = omega arith
-powers-within of (x ∷ xs) =
-    let a : ℕ = of x in
-    let b : ℕ = sum_by of xs in
-    let rest : ℕ = product_by (λ (y : ℕ). of y ^ of y) xs in
-    let both : a ^ a * rest ≤ (a + b) ^ a * (a + b) ^ b =
-    mul-le-mul (pow-le-pow_left (omega arith) a) (within rest (b ^ b) ((a + b) ^ b) (powers-within of xs) (pow-le-pow_left (omega arith) b)) in
-    subst (λ (n : ℕ). a ^ a * rest ≤ n ^ n) (sym (sum_by-cons of x xs)) (subst (λ (n : ℕ). a ^ a * rest ≤ n) (sym (pow-add (a + b) a b)) both) where
-      within : (x y z : ℕ) → x ≤ y → y ≤ z → x ≤ z
-      within x y z p q = omega (arith, p, q)
-
 pub own-most : (n : ℕ) → n ≤ 16 → n ^ n ≤ 18446744073709551616
-own-most n h =
-    let left : n ^ n ≤ 16 ^ n = pow-le-pow_left h n in
-    let right : 16 ^ n ≤ 16 ^ 16 = pow-le-pow_right (omega arith) h in
-    omega (arith, left, right)
+own-most n h = let risen : n ^ n ≤ 16 ^ 16 = own-rises n 16 (omega arith) h in omega (arith, risen)
 
 pub powers-fit : (families : List Family) (i : ℕ) → weights families ≤ 16 → product_by (own_weight families) (range_with_len 0 i) ≤ 18446744073709551616
 powers-fit families i light =

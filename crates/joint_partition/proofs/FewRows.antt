@@ -12,7 +12,7 @@ use Rattle.reuse_paths.specs.Families.{FamilyForms, NodeForms}
 use Rattle.reuse_paths.specs.FamilyClaims.{family_setting, node_walk, region_walk, start_rows}
 use Rattle.reuse_paths.specs.WalkSettings.{WalkSetting, region_context}
 use Rattle.reuse_paths.specs.Walks.{WalkRegion}
-use Rattle.joint_partition.proofs.FromFew.{walk-few}
+use Rattle.reuse_paths.proofs.FewContexts.{walk-few}
 use Rattle.joint_partition.specs.Claims.{families_claims, family_claims, member_at, setting_of, start_claims, way_claims}
 use Rattle.joint_partition.specs.JointPieces.{HasFamilyPieces, HasJointPieces, HasRegionPieces, HasStartPieces, HasWayPieces, HaveNodePieces}
 use Rattle.joint_partition.specs.Term.{JointFamily, JointTerm, PartWalks, WayTerm, credited_nests, part_walks, way_walks}

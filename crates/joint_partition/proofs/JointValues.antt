@@ -26,12 +26,11 @@ use Rattle.stretch_laws.specs.Laws.{DifferentComputationsAreFew, points_computed
 use Rattle.stretch_laws.specs.Reuse.{CountedPoint, WalkFamily, group_words, words_in}
 use Rattle.stretch_laws.specs.Runs.{computed_among, computed_vertices}
 use Rattle.joint_partition.specs.Claims.{family_pieces}
-use Rattle.joint_partition.specs.JointCosts.{JointClaimsCost, JointClaimsCostInRuns}
+use Rattle.joint_partition.specs.JointCosts.{JointClaimsCost}
 use Rattle.joint_partition.specs.JointFits.{JointFamiliesAreSound, JointGroupsAreApart, PartsAreSound}
-use Rattle.joint_partition.specs.JointLoads.{credited_count, image_count, joint_footprint}
-use Rattle.joint_partition.specs.JointRuns.{image_vertices}
+use Rattle.joint_partition.specs.JointLoads.{JointTermsAreLoadedInRuns, credited_count, image_count, joint_footprint}
 use Rattle.joint_partition.specs.JointPieces.{joint_pieces}
-use Rattle.joint_partition.specs.JointValues.{IsJointBound, JointPiecesCover, JointTermsCostTheirValue, JointTermsShareAmongRuns}
+use Rattle.joint_partition.specs.JointValues.{IsJointBound, JointPiecesCover, JointTermsCostTheirValue, JointTermsShareAmongRuns, image_vertices}
 use Rattle.joint_partition.specs.JointWords.{group_numbers, joint_partition, joint_points, walk_family}
 use Rattle.joint_partition.specs.Term.{JointFamily, JointTerm, credited_nests}
 use Rattle.joint_partition.proofs.ClaimsCost.{holds-families, sound}
@@ -95,14 +94,13 @@ joint-terms-cost-their-value of_parts of_families of_groups cover value cost pro
       (cost program trees term place numbers values s moves formed trees-fit trees-true fits holds bound.has admitted game);
 }
 
-pub joint-terms-share-among-runs : PartsAreSound → JointFamiliesAreSound → JointGroupsAreApart → TermsHaveTheValue → DifferentComputationsAreFew → JointClaimsCostInRuns
-    → JointTermsShareAmongRuns
-joint-terms-share-among-runs of_parts of_families of_groups value different cost program trees term place count credits numbers formed trees-fit trees-true fits holds bound = record {
+pub joint-terms-share-among-runs : TermsHaveTheValue → DifferentComputationsAreFew → JointTermsAreLoadedInRuns → JointTermsShareAmongRuns
+joint-terms-share-among-runs value different loaded program term count credits numbers formed sound apart bound = record {
   instances = λ values v admitted stands.
       let point = Member-map_from (λ (p : CountedPoint). p.vertex) v (joint_points program term values) (standing-member (image_vertices program term values) v stands) in
       let below : point.0.vertex < length (execution program values) =
       All-member (λ (p : CountedPoint). p.vertex < length (execution program values)) (joint_points program term values) point.0
-      (points-there program term values admitted term.parts (sound of_parts of_families of_groups program trees term place formed trees-fit trees-true fits holds).parts) point.1.0 in
+      (points-there program term values admitted term.parts sound.parts) point.1.0 in
       omega (arith, below, point.1.1);
   many = λ values admitted.
       length-map (joint_points program term values) (λ (p : CountedPoint). p.vertex) ∙ points-many program term values term.parts
@@ -111,7 +109,7 @@ joint-terms-share-among-runs of_parts of_families of_groups value different cost
       let least : n ≤ length (points_computed (joint_partition program term values) moves) = omega (arith, few, computed-same (joint_points program term values) moves) in
       omega (
         arith,
-        cost program trees term place numbers values s n red moves formed trees-fit trees-true fits holds bound.has admitted run least,
+        loaded program term numbers values s n red moves formed admitted sound (apart values admitted) bound.has run least,
         different (credited_vertices program (credited_nests term) values) moves distinct,
         credits-few program values (credited_nests term),
         credits-are program term count credits numbers bound value values admitted,

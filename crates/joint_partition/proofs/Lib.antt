@@ -6,8 +6,6 @@ pub mod FamiliesFit
 pub mod FewRows
 pub mod PlainSettings
 pub mod GroupLists
-pub mod FromTold
-pub mod FromFew
 pub mod Indexed
 pub mod ScaledForms
 pub mod StartsFound

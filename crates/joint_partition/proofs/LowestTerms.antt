@@ -1,11 +1,14 @@
 -- Fractions in lowest terms: a numerator and a denominator divided by their greatest common divisor. A fraction has one such form.
-use Rattle.std.proofs.Common.{◌≡◌, sym, ◌∙◌, ap, subst, ℕ, zero, suc, ◌*◌, ◌/◌, ◌≤◌, arith}
+use Rattle.std.proofs.Common.{◌≡◌, refl, sym, ◌∙◌, ap, subst, ℕ, zero, suc, ◌*◌, ◌/◌, ◌<◌, ◌≤◌, arith}
 use Rattle.std.specs.Int.{IsGcd}
-use Rattle.std.proofs.Math.Nat.{div-mul_cancel, eq_of_mul-eq-mul_right}
-use Rattle.std.proofs.lemmas.Nat.Gcd.{same_from_IsGcd}
+use Rattle.std.specs.Prelude.{◌%◌}
+use Rattle.std.proofs.Math.Nat.{div-mul_cancel, eq_of_mul-eq-mul_right, mod-lt}
+use Rattle.std.proofs.lemmas.Nat.Gcd.{IsGcd-from_mod, IsGcd-from_zero, same_from_IsGcd}
 use Rattle.uniform_cover.proofs.Powers.{self_pow_pos}
-use Rattle.joint_partition.specs.JointLoads.{IsLowest, factor_over, factor_under, weight_of}
+use Rattle.iolb_model.specs.Bound.{StretchNumbers}
+use Rattle.joint_partition.specs.JointLoads.{HasJointNumbers, IsLowest, factor_over, factor_under, weight_of}
 use Rattle.joint_partition.specs.JointNumbers.{JointNumbersAreOne, JointNumbersArePositive}
+use Rattle.joint_partition.specs.Term.{JointTerm}
 
 -- factors of a positive product are positive
 right-some : (q g under : ℕ) → q * g ≡ under → 1 ≤ under → 1 ≤ g
@@ -52,3 +55,29 @@ joint-numbers-are-one term numbers others h g = λ i. record {
 
 pub joint-numbers-are-positive : JointNumbersArePositive
 joint-numbers-are-positive term numbers has = left-some numbers.den has.factor.common (factor_under term) has.factor.below (self_pow_pos (weight_of term))
+
+-- ---- a term has such numbers
+
+-- two numbers have a greatest common divisor, found by so many remainders at most
+common-there : (n a b : ℕ) → b ≤ n → (g : ℕ) × IsGcd a b g
+common-there n a zero h = (a, IsGcd-from_zero a zero refl)
+common-there zero a (suc b) h = absurd (omega (arith, h))
+common-there (suc n) a (suc b) h =
+    let less : a % suc b < suc b = mod-lt a (omega arith) in
+    let found = common-there n (suc b) (a % suc b) (omega (arith, h, less)) in
+    (found.0, IsGcd-from_mod a (suc b) found.0 found.1)
+
+pub joint-numbers-there : (term : JointTerm) → (numbers : StretchNumbers) × HasJointNumbers term numbers
+joint-numbers-there term =
+    let over : ℕ = factor_over term in
+    let under : ℕ = factor_under term in
+    let found = common-there under over under (omega arith) in (
+      record { a = term.a; b = term.b; q = term.q; m = weight_of term; num = over / found.0; den = under / found.0 },
+      record {
+        a = refl;
+        b = refl;
+        q = refl;
+        m = refl;
+        factor = lowest-is over under found.0 found.1;
+      },
+    )

@@ -10,7 +10,7 @@ use Rattle.reuse_paths.specs.FamilyClaims.{family_setting}
 use Rattle.reuse_paths.specs.WalkFits.{CreditFits, LabelsFit}
 use Rattle.reuse_paths.specs.WalkSettings.{KeptLabels}
 use Rattle.reuse_paths.specs.WalkViews.{SettingFits}
-use Rattle.joint_partition.proofs.FromTold.{rows-fit}
+use Rattle.reuse_paths.proofs.ToldFamilies.{rows-fit}
 use Rattle.joint_partition.specs.Claims.{setting_of}
 use Rattle.joint_partition.specs.FamiliesFit.{FitsFamily, WayFits}
 use Rattle.joint_partition.specs.Term.{JointFamily, JointTerm, WayTerm, credited_nests, way_walks}

@@ -33,7 +33,7 @@ region-has (Some label) None h = refl
 region-has (Some label) (Some region) h = refl
 
 -- where regions stand only on labels, the nodes have all of them
-regions-have : (labels : List (Option (List AffineForm))) (regions : List (Option WalkRegion)) → AreLabeled labels regions → map node_region (way_nodes labels regions) ≡ regions
+pub regions-have : (labels : List (Option (List AffineForm))) (regions : List (Option WalkRegion)) → AreLabeled labels regions → map node_region (way_nodes labels regions) ≡ regions
 regions-have [] [] h = refl
 regions-have [] (region ∷ regions) h = absurd h
 regions-have (label ∷ labels) [] h = absurd h

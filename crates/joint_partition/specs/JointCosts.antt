@@ -1,5 +1,5 @@
 -- What joint partition terms cost whose claims hold.
-use Rattle.std.specs.Prelude.{ℕ, ◌+◌, ◌-◌, ◌*◌, ◌/◌, ◌≤◌, Bool, ℤ, List, length}
+use Rattle.std.specs.Prelude.{ℕ, ◌+◌, ◌-◌, ◌*◌, ◌/◌, ◌≤◌, ℤ, List}
 use Rattle.iolb_model.specs.declared.game.Move.{Move}
 use Rattle.iolb_model.specs.Program.{AffineProgram, IsWellFormed}
 use Rattle.iolb_model.specs.Bound.{IsAdmitted, StretchNumbers, events_of, points_of}
@@ -9,14 +9,11 @@ use Rattle.claims.specs.Claims.{AllHold}
 use Rattle.claims.specs.declared.place.Step.{Step}
 use Rattle.dep_quast.specs.Tree.{SelectionTree}
 use Rattle.dep_quast.specs.Trees.{RowsAreTrue, RowsFit}
-use Rattle.k_partition.specs.ReusedWords.{credited_vertices}
-use Rattle.stretch_laws.specs.Laws.{points_computed}
-use Rattle.stretch_laws.specs.Runs.{IsRedRun, computations_of}
 use Rattle.joint_partition.specs.Claims.{joint_claims}
 use Rattle.joint_partition.specs.JointFits.{GroupsFit, PartsFit}
 use Rattle.joint_partition.specs.JointLoads.{HasJointNumbers, credited_count, image_count, joint_footprint}
-use Rattle.joint_partition.specs.JointWords.{joint_partition}
-use Rattle.joint_partition.specs.Term.{JointTerm, credited_nests}
+use Rattle.joint_partition.specs.JointWords.{AreGroupsApartWhere, IsSoundJointTerm}
+use Rattle.joint_partition.specs.Term.{JointTerm}
 
 -- A term fits a program and source trees: its parts do, its families and their pieces, and coordinates are covered at least once.
 pub record JointFits (program : AffineProgram) (trees : List (List SelectionTree)) (term : JointTerm) : Type 0 where
@@ -24,17 +21,13 @@ pub record JointFits (program : AffineProgram) (trees : List (List SelectionTree
   pub groups : GroupsFit program trees term
   pub positive : 1 ≤ term.q
 
--- A term whose claims hold, over true source trees, takes in every red run that computes n of its images at least as many loads of
--- its footprint and computations of credited vertices as the events of a stretch, once for each u of the n but the last.
-abbrev pub JointClaimsCostInRuns : Type 0
-JointClaimsCostInRuns = (program : AffineProgram) (trees : List (List SelectionTree)) (term : JointTerm) (place : List Step) (numbers : StretchNumbers) (parameters : List ℤ) (s n : ℕ)
-    (red : List Bool) (moves : List Move) → IsWellFormed program → RowsFit program 0 trees → RowsAreTrue program 0 trees → JointFits program trees term
-    → AllHold (joint_claims program trees place term) → HasJointNumbers term numbers → IsAdmitted program parameters
-    → IsRedRun (computation_graph program parameters) s red moves → n ≤ length (points_computed (joint_partition program term parameters) moves)
-    → events_of numbers s * ((n - 1) / points_of numbers s)
-    ≤ loads_of (joint_footprint program term parameters) moves + computations_of (credited_vertices program (credited_nests term) parameters) moves
+-- A term whose claims hold, over true source trees, is sound, and its groups are apart.
+abbrev pub JointClaimsAreSound : Type 0
+JointClaimsAreSound = (program : AffineProgram) (trees : List (List SelectionTree)) (term : JointTerm) (place : List Step) → IsWellFormed program → RowsFit program 0 trees
+    → RowsAreTrue program 0 trees → JointFits program trees term → AllHold (joint_claims program trees place term) → IsSoundJointTerm program term × AreGroupsApartWhere program term
 
--- And in every complete pebbling with s red pebbles as many loads, once for each u of its images but the last, less the credited points.
+-- It takes in every complete pebbling with s red pebbles at least as many loads of its footprint as the events of a stretch, once for
+-- each u of its images but the last, less the credited points.
 abbrev pub JointClaimsCost : Type 0
 JointClaimsCost = (program : AffineProgram) (trees : List (List SelectionTree)) (term : JointTerm) (place : List Step) (numbers : StretchNumbers) (parameters : List ℤ) (s : ℕ)
     (moves : List Move) → IsWellFormed program → RowsFit program 0 trees → RowsAreTrue program 0 trees → JointFits program trees term

@@ -121,10 +121,14 @@ pub record IsSoundJointTerm (program : AffineProgram) (term : JointTerm) : Type 
   pub positive : 1 ≤ term.q
   pub covered : (i : ℕ) → i < dimensions_of term → term.q ≤ sum_by (λ (family : JointFamily). cond (stands_in family.set i) family.weight 0) term.families
 
--- no two families of different groups have a word in common, at all admitted parameter values
+-- no two families of different groups have a word in common, at parameter values
 abbrev pub AreGroupsApart : AffineProgram → JointTerm → List ℤ → Type 0
 AreGroupsApart program term parameters =
     ArePairwiseDisjoint (map (λ (group : List WalkFamily). group_words group) (joint_partition program term parameters).groups)
+
+-- so at all of them
+abbrev pub AreGroupsApartWhere : AffineProgram → JointTerm → Type 0
+AreGroupsApartWhere program term = (parameters : List ℤ) → IsAdmitted program parameters → AreGroupsApart program term parameters
 
 -- A sound joint term whose groups are apart is a sound joint partition of the computation graph at all admitted parameter values,
 -- of any size.

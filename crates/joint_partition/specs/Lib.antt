@@ -10,7 +10,6 @@ pub mod View
 pub mod Limits
 pub mod JointNumbers
 pub mod JointCounts
-pub mod JointRuns
 pub mod JointValues
 pub mod FamiliesFit
 pub mod JointPieces

@@ -6,7 +6,7 @@ ghost use Rattle.affine_program.specs.Parts.{meaning};
 ghost use Rattle.claims.specs.Claims.{AllHold, IsRefusal};
 ghost use Rattle.dep_quast.specs.Quasts.{trees_of};
 ghost use Rattle.dep_quast.specs.Trees.{RowsAreTrue};
-ghost use Rattle.iolb_model.specs.Bound.{count_value, partition};
+ghost use Rattle.iolb_model.specs.Bound.{joint};
 ghost use Rattle.iolb_model.specs.Footprint.{CostsItsValue};
 ghost use Rattle.joint_partition.specs.Claims.{count_of, joint_claims};
 ghost use Rattle.joint_partition.specs.FamiliesFit.{FitsJoint};
@@ -15,7 +15,7 @@ ghost use Rattle.joint_partition.specs.JointLoads.{joint_footprint, HasJointNumb
 ghost use Rattle.joint_partition.specs.JointNumbers.{FitsNumbers};
 ghost use Rattle.joint_partition.specs.JointPieces.{joint_pieces, HasJointPieces};
 ghost use Rattle.footprint_pieces.specs.Pieces.{AreCovered};
-ghost use Rattle.joint_partition.specs.JointRuns.{image_vertices, SharesAmongRuns};
+ghost use Rattle.joint_partition.specs.JointWords.{AreGroupsApartWhere, IsSoundJointTerm};
 ghost use Rattle.joint_partition.specs.View.{joint_of};
 ghost use Rattle.k_partition.specs.Numbers.{numbers_of};
 ghost use Rattle.k_partition.specs.PartitionClaims.{no_points, IsCreditsTotal};
@@ -25,6 +25,7 @@ use crate::claims_checker::check_claims;
 use crate::counts::joint_points_are_counted;
 use crate::numbers::joint_bound_of;
 use crate::term::Joint;
+use crate::terms::joint_claims_are_sound;
 use crate::values::{joint_pieces_cover, joint_terms_cost_their_value};
 use affine_program::Program;
 use claims::{Place, Refused};
@@ -38,12 +39,23 @@ use std::alloc::Global;
 ///
 /// After `Ok` the value of this bound is loaded: at all parameter values that meet the program's assumptions, of any size, and for
 /// every number of red pebbles, every complete pebbling (Hong and Kung 1981, without recomputation) makes at least as many loads of
-/// the term's footprint as the value says; and a red run that computes a part of the images, and no vertex again, makes as many as
-/// the value would say of so many images.
+/// the term's footprint as the value says.
 ///
 /// # Errors
 ///
-/// The first condition that fails, with its place: those of `check_claims`.
+/// The first condition that fails, with its place. Part by part at `parts/i`: 8 at `shown/k`, 9 and 2 at `sums/k` as
+/// `check_count` has them, 2 at `sums` where the sum of its count and those before passes the limit, 10 at `inside/r`, and 12 at
+/// `inverse/matrix/row/col` for the first entry of the product with the map that isn't that of the scale times the identity. Then
+/// 25 at `distinct/i`, behind `yes` or `no` for each test at `empty`, for the first two parts whose images aren't shown to differ;
+/// for each credit 8, 9 and 2 at `credits/i`, and 2 at `credits/i/sums`; and 17 at `parts/0/map/x` for the first coordinate that
+/// lies in sets of less weight. Then, family by family at `families/j`, what the walks of the starts claim, at `starts/i/tree`, and
+/// those in the regions of the ways, at `ways/i/regions/statement/tree`: behind `yes` and `no` there, at `leaves/i` for the first
+/// leaf that isn't empty, 15 where it isn't shown that no point comes there (at `empty`), that it is an input where the walk stops,
+/// or that its word is in the credited nest or the region that is named (at `rows/i` for a row that isn't shown, else at the leaf),
+/// 14 where it isn't shown that the word has the label of the reader (at `stop/i` for an input, else at `label/i`, and at the leaf
+/// where the word has no label), and 2 for a system of more than 128 rows, at the leaf's first multipliers, or at the leaf. Then 18
+/// and 2 at `apart/i` for the first two pieces of families of different groups with one target that aren't shown to have no vertex
+/// in common.
 pub fn check_joint(
     alloc: Global,
     program: &Program,
@@ -62,12 +74,14 @@ pub fn check_joint(
     ensures holds { OnOk result (AllHold (joint_claims (meaning program.now) (trees_of quasts.now) place.now (joint_of term.now))) }
     ensures few { OnOk result (HasJointPieces (meaning program.now) (trees_of quasts.now) (joint_of term.now)) }
     ensures covered { OnOk result (AreCovered (meaning program.now) (joint_footprint (meaning program.now) (joint_of term.now)) (joint_pieces (meaning program.now) (trees_of quasts.now) (joint_of term.now))) }
-    ensures footprint { IfOk result (λ bound. CostsItsValue (meaning program.now) (partition (polynomial_of bound.count) (polynomial_of bound.credits) (numbers_of bound)) (joint_footprint (meaning program.now) (joint_of term.now))) }
-    ensures shares { IfOk result (λ bound. SharesAmongRuns (meaning program.now) (count_value (polynomial_of bound.count)) (count_value (polynomial_of bound.credits)) (numbers_of bound) (image_vertices (meaning program.now) (joint_of term.now)) (joint_footprint (meaning program.now) (joint_of term.now))) }
+    ensures footprint { IfOk result (λ bound. CostsItsValue (meaning program.now) (joint (polynomial_of bound.count) (polynomial_of bound.credits) (numbers_of bound)) (joint_footprint (meaning program.now) (joint_of term.now))) }
+    ensures sound { OnOk result (IsSoundJointTerm (meaning program.now) (joint_of term.now)) }
+    ensures apart { OnOk result (AreGroupsApartWhere (meaning program.now) (joint_of term.now)) }
     ensures refused { IfErr result (λ refused. IsRefusal (joint_claims (meaning program.now) (trees_of quasts.now) place.now (joint_of term.now)) refused) }
 {
     let _params = program.params();
     joint_points_are_counted();
+    joint_claims_are_sound();
     joint_pieces_cover();
     joint_terms_cost_their_value();
     let (count, credits) = check_claims(alloc, program, quasts, term, place)?;

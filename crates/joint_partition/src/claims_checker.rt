@@ -27,15 +27,8 @@ use std::alloc::Global;
 ///
 /// # Errors
 ///
-/// The first condition that fails, with its place: those of `check_points`; then, family by family at `families/j`, what the walks
-/// of the starts claim, at `starts/i/tree`, and those in the regions of the ways, at `ways/i/regions/statement/tree`: behind `yes`
-/// and `no` there, at `leaves/i` for the first leaf that isn't empty, 15 where it isn't shown that no point comes there (at
-/// `empty`), that it is an input where the walk stops, or that its word is in the credited nest or the region that is named (at
-/// `rows/i` for a row that isn't shown, else at the leaf), 14 where it isn't shown that the word has the label of the reader (at
-/// `stop/i` for an input, else at `label/i`, and at the leaf where the word has no label), and 2 for a system of more than 128 rows,
-/// at the leaf's first multipliers, or at the leaf. Then 18 and 2 at `apart/i` for the first two pieces of families of different
-/// groups with one target that aren't shown to have no vertex in common.
-pub fn check_claims(
+/// The first claim that doesn't hold, with its place: those of `check_points`, then of the families, then of the groups.
+pub(crate) fn check_claims(
     alloc: Global,
     program: &Program,
     quasts: &Quasts,

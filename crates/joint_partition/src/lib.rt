@@ -29,8 +29,5 @@ mod way_walks;
 mod ways_shown;
 
 pub use checker::check_joint;
-pub use claims_checker::check_claims;
-pub use numbers::joint_bound_of;
 pub use pieces::joint_pieces;
-pub use points_checker::check_points;
 pub use term::{Joint, JointFamily, Labeling, Part, Split, Start, Way};

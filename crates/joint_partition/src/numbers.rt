@@ -13,11 +13,11 @@ ghost use Rattle.uniform_cover.specs.Products.{product_by};
 use crate::limits::GROUPS;
 use crate::term::{Joint, JointFamily};
 use k_partition::PartitionBound;
-use poly_tree::Poly;
+use poly_tree::{Poly, gcd};
 
 /// The bound of a term with these counts of its images and of its credits' points. Its numerator and denominator are in lowest
 /// terms.
-pub fn joint_bound_of(term: &Joint, count: Poly, credits: Poly) -> PartitionBound
+pub(crate) fn joint_bound_of(term: &Joint, count: Poly, credits: Poly) -> PartitionBound
     requires { FitsNumbers (joint_of term.now) }
     ensures count { result.count ≡ count }
     ensures credits { result.credits ≡ credits }
@@ -109,14 +109,11 @@ fn own_power(n: u8) -> u128
     u128::from(n).pow(u32::from(n))
 }
 
-/// A fraction in lowest terms, by Euclid's algorithm.
+/// A fraction in lowest terms.
 fn lowest_terms(over: u128, under: u128) -> (u128, u128)
     requires { 1 ≤ under }
     ensures { IsLowest over under result.0 result.1 }
 {
-    let (mut x, mut y) = (over, under);
-    while y != 0 {
-        (x, y) = (y, x % y);
-    }
-    (over / x, under / x)
+    let common = gcd(over, under);
+    (over / common, under / common)
 }

@@ -23,13 +23,8 @@ use std::alloc::Global;
 ///
 /// # Errors
 ///
-/// The first condition that fails, with its place. Part by part at `parts/i`: 8 at `shown/k`, 9 and 2 at `sums/k` as
-/// `check_count` has them, 2 at `sums` where the sum of its count and those before passes the limit, 10 at `inside/r`, and 12 at
-/// `inverse/matrix/row/col` for the first entry of the product with the map that isn't that of the scale times the identity. Then
-/// 25 at `distinct/i`, behind `yes` or `no` for each test at `empty`, for the first two parts whose images aren't shown to differ;
-/// for each credit 8, 9 and 2 at `credits/i`, and 2 at `credits/i/sums`; and 17 at `parts/0/map/x` for the first coordinate that
-/// lies in sets of less weight.
-pub fn check_points(
+/// The first claim that doesn't hold, with its place: of the parts, of their images, of the credits, of the cover.
+pub(crate) fn check_points(
     alloc: Global,
     program: &Program,
     term: &Joint,

@@ -1,6 +1,6 @@
 //! What sound joint terms are, and what they cost.
 
-ghost use Rattle.joint_partition.specs.JointCosts.{JointClaimsCost, JointClaimsCostInRuns};
+ghost use Rattle.joint_partition.specs.JointCosts.{JointClaimsAreSound, JointClaimsCost};
 ghost use Rattle.joint_partition.specs.JointFits.{JointFamiliesAreSound, JointGroupsAreApart, PartsAreSound};
 ghost use Rattle.joint_partition.specs.JointLoads.{JointTermsAreLoaded, JointTermsAreLoadedInRuns};
 ghost use Rattle.joint_partition.specs.JointWords.{SoundJointTermsAreSound};
@@ -54,13 +54,20 @@ pub fn joint_terms_are_loaded()
     joints_are_loaded();
 }
 
-/// A law: a joint term whose claims hold, over true source trees, with the numbers of its bound's value: in every red run that
-/// computes n of its images it takes at least as many loads of its footprint and computations of credited vertices as a stretch
-/// has events, once for each u of the n but the last; and every complete pebbling makes as many loads of it, once for each u of
-/// all images but the last, less the credited points.
+/// A law: a joint term whose claims hold, over true source trees, is sound, and no two of its groups have a word in common, at all
+/// admitted parameter values of any size.
+pub fn joint_claims_are_sound()
+    ensures { JointClaimsAreSound }
+{
+    parts_are_sound();
+    joint_families_are_sound();
+    joint_groups_are_apart();
+}
+
+/// A law: of such a term, with the numbers of its bound's value, every complete pebbling makes at least as many loads as a stretch has
+/// events, once for each u of its images but the last, less the credited points.
 pub fn joint_claims_cost()
-    ensures runs { JointClaimsCostInRuns }
-    ensures pebblings { JointClaimsCost }
+    ensures { JointClaimsCost }
 {
     parts_are_sound();
     joint_families_are_sound();

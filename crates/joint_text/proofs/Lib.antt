@@ -1,3 +1,4 @@
 pub mod ReadBack
 pub mod SomeOf
 pub mod Limits
+pub mod Plain

@@ -91,13 +91,15 @@ module _ (program : AffineProgram) (term : PartitionTerm) (bound : PartitionBoun
       → SplitsAmongRuns program (count_value (polynomial_of bound.count)) (count_value (polynomial_of bound.credits)) (numbers_of bound) (counted_points program term) (term_footprint program term)
   partition-splits split = record {
     distinct = split.distinct;
-    instances = split.instances;
-    many = λ values admitted. split.many values admitted ∙ sym (count-is values admitted);
-    loaded = λ values s n red moves admitted run distinct few.
-        let l : ℕ = loads_of (term_footprint program term values) moves in
-        subst (λ (c : ℕ). events_of (numbers_of bound) s * ((n - 1) / points_of (numbers_of bound) s) ≤ l + c) (sym (credits-are values admitted))
-        (subst (λ (x : StretchNumbers). events_of x s * ((n - 1) / points_of x s) ≤ l + credited_count term values) (sym (same-numbers term bound has))
-        (split.loaded values s n red moves admitted run distinct few));
+    shares = record {
+      instances = split.shares.instances;
+      many = λ values admitted. split.shares.many values admitted ∙ sym (count-is values admitted);
+      loaded = λ values s n red moves admitted run distinct few.
+          let l : ℕ = loads_of (term_footprint program term values) moves in
+          subst (λ (c : ℕ). events_of (numbers_of bound) s * ((n - 1) / points_of (numbers_of bound) s) ≤ l + c) (sym (credits-are values admitted))
+          (subst (λ (x : StretchNumbers). events_of x s * ((n - 1) / points_of x s) ≤ l + credited_count term values) (sym (same-numbers term bound has))
+          (split.shares.loaded values s n red moves admitted run distinct few));
+    };
   }
 
 -- ---- the pieces of all families cover

@@ -129,14 +129,16 @@ terms-loaded loaded different runs program term parameters s u moves formed admi
 pub terms-split : SoundTermsAreLoadedInRuns → DifferentComputationsAreFew → SoundTermsSplit
 terms-split loaded different program term formed sound apart = record {
   distinct = λ values admitted. (sound-terms-are-sound program term values formed admitted sound).0.cover.distinct;
-  instances = λ values v admitted stands. (sound-terms-are-sound program term values formed admitted sound).1.there v stands;
-  many = λ values admitted. points-many program values term;
-  loaded = λ values s n red moves admitted run distinct few.
-      omega (
-        arith,
-        loaded program term values s (points_of (stretch_numbers term) s) n red moves formed admitted sound (apart values admitted) (greatest-of term s sound.positive) run few,
-        credited-few program values term different moves distinct,
-      );
+  shares = record {
+    instances = λ values v admitted stands. (sound-terms-are-sound program term values formed admitted sound).1.there v stands;
+    many = λ values admitted. points-many program values term;
+    loaded = λ values s n red moves admitted run distinct few.
+        omega (
+          arith,
+          loaded program term values s (points_of (stretch_numbers term) s) n red moves formed admitted sound (apart values admitted) (greatest-of term s sound.positive) run few,
+          credited-few program values term different moves distinct,
+        );
+  };
 }
 
 pub stretches-of-terms : StretchesHoldLabelsEach → StretchesHoldLabelsSum → StretchesHoldPointsEach → StretchesHoldPointsSum → StretchesOfTermsAreSmall

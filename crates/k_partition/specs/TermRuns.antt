@@ -46,16 +46,20 @@ SoundTermsAreLoadedInRuns = (program : AffineProgram) (term : PartitionTerm) (pa
     → stretch_of term s * ((n - 1) / u)
     ≤ loads_of (term_footprint program term parameters) moves + computations_of (credited_vertices program (credited_nests term) parameters) moves
 
--- How a term's cost splits among red runs. At all admitted parameter values, of any size, the points are different instances,
--- as many as is counted; and for every s a run that computes n of them, and no vertex again, makes at least as many loads of
--- the footprint as a stretch has events, once for each u of the n but the last, less the credits.
-pub record SplitsAmongRuns (program : AffineProgram) (counted credits : List ℤ → ℕ) (numbers : StretchNumbers) (points footprint : Footprint) : Type 0 where
-  pub distinct : (values : List ℤ) → IsAdmitted program values → IsDistinct nat_eq (points values)
+-- How a cost is shared among red runs. At all admitted parameter values, of any size, the points are instances, of which one may
+-- stand several times, and as many as is counted; and for every s a run that computes n of them, and no vertex again, makes at
+-- least as many loads of the footprint as a stretch has events, once for each u of the n but the last, less the credits.
+pub record SharesAmongRuns (program : AffineProgram) (counted credits : List ℤ → ℕ) (numbers : StretchNumbers) (points footprint : Footprint) : Type 0 where
   pub instances : (values : List ℤ) (v : ℕ) → IsAdmitted program values → stands_in (points values) v ≡ true → v < (computation_graph program values).instances
   pub many : (values : List ℤ) → IsAdmitted program values → length (points values) ≡ counted values
   pub loaded : (values : List ℤ) (s n : ℕ) (red : List Bool) (moves : List Move) → IsAdmitted program values → IsRedRun (computation_graph program values) s red moves
       → IsDistinct nat_eq (computed_vertices moves) → n ≤ length (computed_among (points values) moves)
       → events_of numbers s * ((n - 1) / points_of numbers s) ≤ loads_of (footprint values) moves + credits values
+
+-- How a term's cost splits among red runs: it is shared so, and the points are different instances.
+pub record SplitsAmongRuns (program : AffineProgram) (counted credits : List ℤ → ℕ) (numbers : StretchNumbers) (points footprint : Footprint) : Type 0 where
+  pub distinct : (values : List ℤ) → IsAdmitted program values → IsDistinct nat_eq (points values)
+  pub shares : SharesAmongRuns program counted credits numbers points footprint
 
 -- that of a term does, over its points and its footprint
 abbrev pub TermSplits : AffineProgram → PartitionTerm → Type 0

@@ -1,11 +1,16 @@
 -- The branches of the bounds of accepted certificates are split.
-use Rattle.std.proofs.Common.{sym, subst, ℕ, List, [], ◌∷◌, map}
+use Rattle.std.proofs.Common.{sym, subst, ℕ, List, [], ◌∷◌, length, map}
 use Rattle.std.specs.List.{AllByRecursion, AllZip}
 use Rattle.iolb_model.specs.Program.{IsWellFormed}
 use Rattle.iolb_model.specs.Footprint.{CostTheirValues}
 use Rattle.affine_program.specs.Parts.{ProgramParts, meaning}
 use Rattle.poly_tree.specs.Poly.{IsLegal, Quotient}
 use Rattle.poly_tree.specs.Printed.{TermsHaveTheValue}
+use Rattle.joint_partition.specs.Claims.{count_of}
+use Rattle.joint_partition.specs.JointValues.{IsJointBound, JointTermsShareAmongRuns, image_vertices}
+use Rattle.joint_partition.specs.Term.{JointTerm}
+use Rattle.joint_partition.specs.View.{joint_of}
+use Rattle.k_partition.specs.Numbers.{numbers_of}
 use Rattle.k_partition.specs.PartitionClaims.{IsCreditsTotal, no_points}
 use Rattle.k_partition.specs.ReusedWords.{counted_points}
 use Rattle.k_partition.specs.Term.{CreditTerm}
@@ -30,7 +35,7 @@ credits-legal : (parameters : ℕ) (before total : Quotient) (credits : List Cre
 credits-legal parameters before total [] legal is = subst IsLegal (sym is) legal
 credits-legal parameters before total (credit ∷ credits) legal is = credits-legal parameters is.1.1.0 total credits is.1.1.1.0.legal is.1.1.1.1
 
-module _ (program : ProgramParts) (formed : IsWellFormed (meaning program)) (split : SoundTermsSplit) (value : TermsHaveTheValue) where
+module _ (program : ProgramParts) (formed : IsWellFormed (meaning program)) (split : SoundTermsSplit) (share : JointTermsShareAmongRuns) (value : TermsHaveTheValue) where
   -- ---- a term
 
   term-split : (term : Term) (given : Value) → IsValueOf (meaning program) (claim_of_term term) given → IsSound program term → IsCounted program term given
@@ -38,18 +43,35 @@ module _ (program : ProgramParts) (formed : IsWellFormed (meaning program)) (spl
   term-split (terms.Cold cold) (values.Cold count) is sound counted = tt
   term-split (terms.Cold cold) (values.Partition bound) is sound counted = absurd is
   term-split (terms.Cold cold) (values.Wavefront pairs outer) is sound counted = tt
+  term-split (terms.Cold cold) (values.Joint bound) is sound counted = absurd is
   term-split (terms.Partition partition) (values.Cold count) is sound counted = tt
   term-split (terms.Partition partition) (values.Partition bound) is sound counted = (
     counted_points (meaning program) (partition_of partition),
-    partition-splits (meaning program) (partition_of partition) bound value is.numbers
+    (partition-splits (meaning program) (partition_of partition) bound value is.numbers
         (count-legal _ partition.nest partition.sums.sums bound.count is.count.sums)
         (credits-legal _ no_points bound.credits (partition_of partition).credits (constant-legal _) is.credits)
-        counted.0 counted.1 (split (meaning program) (partition_of partition) formed sound.0 sound.1),
+        counted.0 counted.1 (split (meaning program) (partition_of partition) formed sound.0 sound.1)).shares,
   )
   term-split (terms.Partition partition) (values.Wavefront pairs outer) is sound counted = tt
+  term-split (terms.Partition partition) (values.Joint bound) is sound counted = absurd is
   term-split (terms.Wavefront front) (values.Cold count) is sound counted = tt
   term-split (terms.Wavefront front) (values.Partition bound) is sound counted = absurd is
   term-split (terms.Wavefront front) (values.Wavefront pairs outer) is sound counted = tt
+  term-split (terms.Wavefront front) (values.Joint bound) is sound counted = absurd is
+  term-split (terms.Joint joint) (values.Cold count) is sound counted = tt
+  term-split (terms.Joint joint) (values.Partition bound) is sound counted = absurd is
+  term-split (terms.Joint joint) (values.Wavefront pairs outer) is sound counted = tt
+  term-split (terms.Joint joint) (values.Joint bound) is sound counted =
+      let term : JointTerm = joint_of joint in
+      let parameters : ℕ = length (meaning program).parameters in
+      let bounded : IsJointBound (meaning program) term bound.count bound.credits (numbers_of bound) = record {
+        legal = credits-legal parameters no_points bound.count (map count_of term.parts) (constant-legal _) is.count;
+        legal_credits = credits-legal parameters no_points bound.credits term.credits (constant-legal _) is.credits;
+        images = counted.0;
+        credited = counted.1;
+        has = is.numbers;
+      } in
+      (image_vertices (meaning program) term, share (meaning program) term bound.count bound.credits (numbers_of bound) formed sound.0 sound.1 bounded)
 
   -- ---- the terms of a branch
 
@@ -82,7 +104,7 @@ module _ (program : ProgramParts) (formed : IsWellFormed (meaning program)) (spl
     branches-split branches given are.1 sound.1 paid.1 counted.1,
   )
 
-pub accepted-hold : SplitBranchesHoldInParallel → SoundTermsSplit → TermsHaveTheValue → AcceptedBoundsHoldInParallel
-accepted-hold hold split value program certificate bound formed accepted =
+pub accepted-hold : SplitBranchesHoldInParallel → SoundTermsSplit → JointTermsShareAmongRuns → TermsHaveTheValue → AcceptedBoundsHoldInParallel
+accepted-hold hold split share value program certificate bound formed accepted =
     hold (meaning program) (bound_of bound)
-    (branches-split program formed split value certificate.branches bound.branches accepted.meets.valued accepted.sound accepted.paid accepted.counts)
+    (branches-split program formed split share value certificate.branches bound.branches accepted.meets.valued accepted.sound accepted.paid accepted.counts)

@@ -8,11 +8,13 @@ use Rattle.pebble_game.proofs.Disjoint.{disjoint_loads}
 use Rattle.pebble_game.proofs.Marks.{member-stands}
 use Rattle.iolb_model.specs.declared.game.Move.{Move}
 use Rattle.iolb_model.specs.Program.{AffineProgram}
-use Rattle.iolb_model.specs.Bound.{Bound, BoundTerm, IsAdmitted, cold, count_value, partition, wavefront}
+use Rattle.iolb_model.specs.Bound.{Bound, BoundTerm, IsAdmitted, StretchNumbers, cold, count_value, joint, partition, wavefront}
+use Rattle.iolb_model.specs.Polynomial.{Polynomial}
 use Rattle.iolb_model.specs.Footprint.{CostTheirValues, CostsItsValue, Footprint}
 use Rattle.iolb_model.specs.Game.{loads, loads_of, vertices}
 use Rattle.iolb_model.specs.Graph.{computation_graph}
-use Rattle.iolb_model.specs.Parallel.{IsCompleteParallelPebbling, ParallelMove, ceiling, moves_by, own_part, parallel_branch_value, parallel_value, shared_part}
+use Rattle.iolb_model.specs.Parallel.{IsCompleteParallelPebbling, ParallelMove, ceiling, moves_by, own_part, own_stretches, parallel_branch_value, parallel_value, shared_part}
+use Rattle.k_partition.specs.TermRuns.{SharesAmongRuns}
 use Rattle.stretch_laws.specs.Runs.{computed_among}
 use Rattle.parallel_bound.specs.Holds.{IsSplit, IsSplitBranch, SplitBranchesHoldInParallel}
 use Rattle.parallel_bound.specs.Merging.{ParallelPebblingsMerge}
@@ -57,6 +59,7 @@ module _ (merge : ParallelPebblingsMerge) (runs : ProcessorsMakeRuns) (share : S
   shared-low (wavefront pairs outer) footprint costs =
       costs.loaded values (processors * s) together admitted (positive processors s some some_red) (merge (computation_graph program values) processors s steps game).complete
   shared-low (partition count credits numbers) footprint costs = omega arith
+  shared-low (joint count credits numbers) footprint costs = omega arith
 
   all-shared-low : (terms : List BoundTerm) (footprints : List Footprint) → CostTheirValues program terms footprints
       → sum_by (λ term. shared_part term values processors s) terms ≤ sum_by (λ set. loads_of set together) (map (λ (footprint : Footprint). footprint values) footprints)
@@ -90,10 +93,9 @@ module _ (merge : ParallelPebblingsMerge) (runs : ProcessorsMakeRuns) (share : S
 
   -- ---- what one loads
 
-  own-is-loaded : (term : BoundTerm) (footprint : Footprint) → IsSplit program term footprint → SomeLoads (own_part term values processors s)
-  own-is-loaded (cold count) footprint split = no-loads
-  own-is-loaded (wavefront pairs outer) footprint split = no-loads
-  own-is-loaded (partition count credits numbers) footprint split =
+  stretches-are-loaded : (count credits : Polynomial) (numbers : StretchNumbers) (footprint : Footprint)
+      → (points : Footprint) × SharesAmongRuns program (count_value count) (count_value credits) numbers points footprint → SomeLoads (own_stretches count credits numbers values processors s)
+  stretches-are-loaded count credits numbers footprint split =
       let points : List ℕ = split.0 values in
       let there : AllByRecursion (λ (v : ℕ). v < (computation_graph program values).instances) points =
       All-from (λ (v : ℕ). v < (computation_graph program values).instances) points (λ v m. split.1.instances values v admitted (member-stands points v m)) in
@@ -109,6 +111,12 @@ module _ (merge : ParallelPebblingsMerge) (runs : ProcessorsMakeRuns) (share : S
           set-loads (footprint values) (moves_by found.0 steps),
         ),
       )
+
+  own-is-loaded : (term : BoundTerm) (footprint : Footprint) → IsSplit program term footprint → SomeLoads (own_part term values processors s)
+  own-is-loaded (cold count) footprint split = no-loads
+  own-is-loaded (wavefront pairs outer) footprint split = no-loads
+  own-is-loaded (partition count credits numbers) footprint split = stretches-are-loaded count credits numbers footprint split
+  own-is-loaded (joint count credits numbers) footprint split = stretches-are-loaded count credits numbers footprint split
 
   all-own-are-loaded : (terms : List BoundTerm) (footprints : List Footprint) → AllZip (IsSplit program) terms footprints → AllByRecursion (λ term. SomeLoads (own_part term values processors s)) terms
   all-own-are-loaded [] [] split = tt

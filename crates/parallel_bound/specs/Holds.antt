@@ -2,23 +2,25 @@
 use Rattle.std.specs.Prelude.{⊤, List}
 use Rattle.std.specs.List.{AllByRecursion, AllZip}
 use Rattle.iolb_model.specs.Program.{AffineProgram, IsWellFormed}
-use Rattle.iolb_model.specs.Bound.{Bound, BoundTerm, cold, count_value, partition, wavefront}
+use Rattle.iolb_model.specs.Bound.{Bound, BoundTerm, cold, count_value, joint, partition, wavefront}
 use Rattle.iolb_model.specs.Footprint.{AreApartFootprints, CostTheirValues, Footprint}
 use Rattle.iolb_model.specs.Parallel.{HoldsInParallel}
 use Rattle.affine_program.specs.Parts.{ProgramParts, meaning}
-use Rattle.k_partition.specs.TermRuns.{SplitsAmongRuns}
+use Rattle.k_partition.specs.TermRuns.{SharesAmongRuns}
 use Rattle.iolb_check.specs.Bounds.{BoundParts, bound_of}
 use Rattle.iolb_check.specs.Claims.{claim_of_certificate}
 use Rattle.iolb_check.specs.Conditions.{MeetsConditions}
 use Rattle.iolb_check.specs.Limits.{CertificateParts}
 use Rattle.iolb_check.specs.Sound.{AreCounted, ArePaid, IsSoundBranch}
 
--- A partition term's cost splits among runs that compute parts of its points. Nothing is asked of other terms.
+-- A partition or joint term's cost is shared among runs that compute parts of its points. Nothing is asked of other terms.
 abbrev pub IsSplit : AffineProgram → BoundTerm → Footprint → Type 0
 IsSplit program (cold count) footprint = ⊤
 IsSplit program (wavefront pairs outer) footprint = ⊤
 IsSplit program (partition count credits numbers) footprint =
-    (points : Footprint) × SplitsAmongRuns program (count_value count) (count_value credits) numbers points footprint
+    (points : Footprint) × SharesAmongRuns program (count_value count) (count_value credits) numbers points footprint
+IsSplit program (joint count credits numbers) footprint =
+    (points : Footprint) × SharesAmongRuns program (count_value count) (count_value credits) numbers points footprint
 
 -- The terms of a branch cost their values in loads of footprints of which no two have a vertex in common, and split.
 pub record IsSplitBranch (program : AffineProgram) (terms : List BoundTerm) : Type 0 where

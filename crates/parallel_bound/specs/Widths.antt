@@ -8,9 +8,9 @@ use Rattle.k_partition.specs.Numbers.{numbers_of}
 use Rattle.poly_tree.specs.Printed.{polynomial_of}
 use Rattle.iolb_check.specs.Bounds.{AreWideLabels, IsWideAt, IsWideTimes, terms_of}
 use Rattle.iolb_check.specs.declared.bound.Value.{Value}
-use Rattle.iolb_check.specs.declared.bound.Value.TheVariants.{Cold, Partition, Wavefront}
+use Rattle.iolb_check.specs.declared.bound.Value.TheVariants.{Cold, Joint, Partition, Wavefront}
 
--- how many of a partition term's instances are one processor's share
+-- how many of a partition term's instances, or of a joint term's images, are one processor's share
 abbrev pub share_at : List ℤ → ℕ → PartitionBound → ℕ
 share_at sizes processors bound = ceiling (count_value (polynomial_of bound.count) sizes) processors
 
@@ -19,13 +19,17 @@ abbrev pub AreWideShares : List ℤ → ℕ → ℕ → PartitionBound → Type 
 AreWideShares sizes processors s bound =
     MEASURE ≤ events_of (numbers_of bound) s * ((share_at sizes processors bound - 1) / points_of (numbers_of bound) s)
 
--- one of a term's polynomials is wide, or the labels of a stretch, or the events of a share's stretches, or what may be red on
--- all processors for a wavefront term's vertices
+-- one of the polynomials of a partition or joint term is wide, or the labels of a stretch, or the events of a share's stretches
+abbrev pub IsWideOwn : List ℤ → ℕ → ℕ → PartitionBound → Type 0
+IsWideOwn sizes processors s bound =
+    IsWideAt sizes bound.count ⊎ (IsWideAt sizes bound.credits ⊎ (AreWideLabels s (numbers_of bound) ⊎ AreWideShares sizes processors s bound))
+
+-- one of a term's polynomials is wide, or what may be red on all processors for a wavefront term's vertices
 abbrev pub IsWideInParallel : List ℤ → ℕ → ℕ → Value → Type 0
 IsWideInParallel sizes processors s (Cold count) = IsWideAt sizes count
-IsWideInParallel sizes processors s (Partition bound) =
-    IsWideAt sizes bound.count ⊎ (IsWideAt sizes bound.credits ⊎ (AreWideLabels s (numbers_of bound) ⊎ AreWideShares sizes processors s bound))
+IsWideInParallel sizes processors s (Partition bound) = IsWideOwn sizes processors s bound
 IsWideInParallel sizes processors s (Wavefront pairs outer) = IsWideAt sizes pairs ⊎ (IsWideAt sizes outer ⊎ IsWideTimes sizes (processors * s) outer)
+IsWideInParallel sizes processors s (Joint bound) = IsWideOwn sizes processors s bound
 
 -- one of the terms is wide
 abbrev pub HasWideParallelTerm : List ℤ → ℕ → ℕ → List Value → Type 0

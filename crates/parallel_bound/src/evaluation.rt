@@ -4,11 +4,12 @@ ghost use Rattle.std.specs.Prelude.{◌≡◌, ◌≤◌, ◌<◌, ◌^◌, ◌*
 ghost use Rattle.std.specs.List.{AllByRecursion};
 ghost use Rattle.affine_form.specs.Form.{IsSmall};
 ghost use Rattle.iolb_model.specs.Bound.{AreMet};
-ghost use Rattle.iolb_model.specs.Parallel.{ceiling, own_part, parallel_branch_value, parallel_value, shared_part};
+ghost use Rattle.iolb_model.specs.Parallel.{ceiling, own_part, own_stretches, parallel_branch_value, parallel_value, shared_part};
 ghost use Rattle.iolb_model.specs.declared.limits.TheConstants.{MEASURE, PROCESSORS, VALUE_SIZE};
-ghost use Rattle.iolb_check.specs.Bounds.{Evaluates, IsTermValue, bound_of, lists, term_of, terms_of};
-ghost use Rattle.iolb_check.specs.declared.bound.Value.TheVariants.{Partition};
-ghost use Rattle.parallel_bound.specs.Widths.{HasWideParallelBranch, IsWideInParallel, IsWideParallelBranch, greatest_parallel_branch};
+ghost use Rattle.iolb_check.specs.Bounds.{Evaluates, IsStretching, IsTermValue, bound_of, lists, term_of, terms_of};
+ghost use Rattle.k_partition.specs.Numbers.{numbers_of};
+ghost use Rattle.poly_tree.specs.Printed.{polynomial_of};
+ghost use Rattle.parallel_bound.specs.Widths.{HasWideParallelBranch, IsWideInParallel, IsWideOwn, IsWideParallelBranch, greatest_parallel_branch};
 
 use affine_form::System;
 use affine_program::first_unmet;
@@ -20,16 +21,16 @@ use k_partition::PartitionBound;
 use poly_tree::Wide;
 
 /// The value of a bound at sizes for the parameters, for so many processors with `s` red pebbles each: the greatest value of a
-/// branch, and 0 if there is none. The value of a branch is the greatest of its partition terms' own parts, which are the values
-/// of as many instances as one processor computes at least, and of a processor's share of what all processors load together for
-/// the cold and the wavefront terms.
+/// branch, and 0 if there is none. The value of a branch is the greatest of the own parts of its partition and joint terms, which
+/// are the values of as many instances or images as one processor computes at least, and of a processor's share of what all
+/// processors load together for the cold and the wavefront terms.
 ///
 /// # Errors
 ///
 /// `OutsideAssumption` names the first assumption that is false at the sizes. `Wide` comes where all are true, exactly where in
 /// some branch the terms of a polynomial, each coefficient's size times the powers of the variables' sizes, reach 2^126 in sum,
 /// or all processors' red pebbles times the vertices of a wavefront term do, or the events of the stretches that a processor's
-/// share of a partition term fills, or what all processors load together; or where the labels of a stretch, to the power of the
+/// share of a partition or joint term fills, or what all processors load together; or where the labels of a stretch, to the power of the
 /// weights, reach 2^127.
 pub fn value_in_parallel(
     bound: &Bound,
@@ -131,7 +132,7 @@ fn parts_at(
             let cells = count_at(count, assumed, point)?;
             Ok((0, cells.min(limits::MEASURE)))
         }
-        Value::Partition(bound) => {
+        Value::Partition(bound) | Value::Joint(bound) => {
             let own = own_at(bound, assumed, point, processors, s)?;
             Ok((own, 0))
         }
@@ -148,7 +149,7 @@ fn parts_at(
     }
 }
 
-/// The own part of a partition term at sizes that meet the assumptions.
+/// The own part of a partition or joint term at sizes that meet the assumptions.
 fn own_at(
     bound: &PartitionBound,
     assumed: &System,
@@ -156,13 +157,13 @@ fn own_at(
     processors: u32,
     s: u64,
 ) -> Result<u128, Wide>
-    requires counting { IsTermValue assumed.now (Partition bound.now) }
+    requires counting { IsStretching assumed.now bound.now }
     requires each { length point.now ≡ assumed.now.vars }
     requires met { AreMet assumed.now.rows point.now }
     requires some_processor { 1 ≤ processors }
     requires some { 1 ≤ s }
-    ensures value { IfOk result (λ own. own ≡ own_part (term_of (Partition bound.now)) point.now processors s) }
-    ensures wide { IsErr result ↔ IsWideInParallel point.now processors s (Partition bound.now) }
+    ensures value { IfOk result (λ own. own ≡ own_stretches (polynomial_of bound.now.count) (polynomial_of bound.now.credits) (numbers_of bound.now) point.now processors s) }
+    ensures wide { IsErr result ↔ IsWideOwn point.now processors s bound.now }
 {
     let points = count_at(&bound.count, assumed, point)?;
     let credited = count_at(&bound.credits, assumed, point)?;

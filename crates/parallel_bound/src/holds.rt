@@ -4,12 +4,13 @@ ghost use Rattle.parallel_bound.specs.Holds.{AcceptedBoundsHoldInParallel, Split
 
 use crate::merging::parallel_pebblings_merge;
 use crate::shares::processors_share;
+use joint_partition::values::joint_terms_share_among_runs;
 use k_partition::term_runs::terms_are_loaded_in_runs;
 use poly_tree::printed_law::terms_have_the_value;
 
 /// A law: a bound holds for several processors where the terms of each branch cost their values in loads of footprints of which
-/// no two have a vertex in common, and the costs of its partition terms split among runs. The processor that computes most of a
-/// partition term's points makes at least the term's own part of loads, and one of them its share of what all load together.
+/// no two have a vertex in common, and the costs of its partition and joint terms are shared among runs. The processor that computes
+/// most of such a term's points makes at least the term's own part of loads, and one of them its share of what all load together.
 pub fn split_branches_hold_in_parallel()
     ensures { SplitBranchesHoldInParallel }
 {
@@ -23,5 +24,6 @@ pub fn accepted_bounds_hold_in_parallel()
 {
     split_branches_hold_in_parallel();
     terms_are_loaded_in_runs();
+    joint_terms_share_among_runs();
     terms_have_the_value();
 }

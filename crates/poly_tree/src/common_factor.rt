@@ -36,7 +36,7 @@ fn content(tree: &Tree, start: u128) -> u128
 }
 
 /// The greatest common divisor of two numbers, by Euclid's algorithm.
-fn gcd(a: u128, b: u128) -> u128
+pub fn gcd(a: u128, b: u128) -> u128
     ensures { IsGcd a b result }
 {
     let (mut x, mut y) = (a, b);

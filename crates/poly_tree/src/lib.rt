@@ -31,6 +31,7 @@ mod weight;
 mod wide;
 mod written;
 
+pub use common_factor::gcd;
 pub use fault::PolyFault;
 pub use poly::Poly;
 pub use tree::Tree;

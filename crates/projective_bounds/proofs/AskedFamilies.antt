@@ -187,7 +187,7 @@ module _ (program : AffineProgram) (trees : List (List SelectionTree)) (array : 
         (walk-asked (((place ++ Index 0 ∷ []) ++ Key (codes "region") ∷ []) ++ Key (codes "tree") ∷ []))
     by false = tt
 
-  inputs-asked : (place : List Step) → AllHold (inputs_fit program place family)
+  inputs-asked : (place : List Step) → AllHold (inputs_fit program place (length family.set) family.inputs)
   inputs-asked place = (
     cells-many program (length set) place program.arrays family.inputs fits.labels.cells,
     cells-asked program (length set) place 0 program.arrays family.inputs (λ k. ap (slice_get program.arrays) (front k)) fits.labels.cells,
@@ -205,7 +205,7 @@ module _ (program : AffineProgram) (trees : List (List SelectionTree)) (array : 
 
   family-asked : (place : List Step) → AllHold (family_fit program trees 0 [] place family)
   family-asked place =
-      let inputs : List Claim = inputs_fit program (place ++ Key (codes "inputs") ∷ []) family in
+      let inputs : List Claim = inputs_fit program (place ++ Key (codes "inputs") ∷ []) (length family.set) family.inputs in
       let nodes : List Claim = nodes_fit program trees [] (place ++ Key (codes "nodes") ∷ []) family in
       let rows : List Claim = set_fit d (place ++ Key (codes "set") ∷ []) set in
       let start : List Claim = start_fit program trees 0 [] (place ++ Key (codes "start") ∷ []) family in

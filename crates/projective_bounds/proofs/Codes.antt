@@ -12,7 +12,7 @@ use Rattle.iolb_model.specs.Form.{AffineForm}
 use Rattle.iolb_model.specs.Program.{Access, AffineProgram, Array, IsWellFormed, no_statement, read_at, statement_at}
 use Rattle.affine_program.specs.Domain.{depth_of}
 use Rattle.affine_program.specs.Parts.{ProgramParts, meaning}
-use Rattle.cold_terms.specs.Held.{IsHeldCold, IsPlaced, array_read as array_of_cold}
+use Rattle.projective_bounds.specs.HeldColds.{IsHeldCold, IsPlaced, array_read as array_of_cold}
 use Rattle.dep_quast.specs.Context.{ReadOf}
 use Rattle.dep_quast.specs.Tree.{SelectionTree}
 use Rattle.dep_quast.specs.Truth.{ReadFits}

@@ -30,8 +30,8 @@ use Rattle.iolb_check.specs.Conditions.{branch_claims, conditions, disjoint_clai
 use Rattle.iolb_check.specs.Limits.{IsSmallBranch, IsSmallPartition, IsSmallTerm, IsWithinLimits}
 use Rattle.iolb_check.specs.PartitionFit.{partition_fit}
 use Rattle.iolb_check.specs.TermFit.{branch_at, branch_fit}
-use Rattle.cold_terms.specs.Held.{IsPlaced, array_read}
-use Rattle.cold_terms.proofs.BranchLaws.{branch-fits, branch-holds, made}
+use Rattle.projective_bounds.specs.HeldColds.{IsPlaced, array_read}
+use Rattle.projective_bounds.proofs.ColdBranches.{branch-fits, branch-holds, made}
 use Rattle.projective_bounds.specs.WholeLaws.{CanBeShown}
 use Rattle.projective_bounds.proofs.Asked.{whole-terms-asked}
 use Rattle.projective_bounds.proofs.Held.{whole-terms-hold}

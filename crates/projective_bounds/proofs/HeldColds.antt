@@ -6,9 +6,9 @@ use Rattle.iolb_model.specs.Program.{AffineProgram}
 use Rattle.affine_program.specs.Parts.{ProgramParts, IsProgram, meaning}
 use Rattle.flow_deps.specs.declared.wanted.Wanted.TheVariants.{Short}
 use Rattle.flow_deps.specs.Answers.{Answers, HasNoShort, Question, following}
-use Rattle.cold_terms.specs.Held.{ArePolynomials, IsHeldCold}
+use Rattle.projective_bounds.specs.HeldColds.{ArePolynomials, IsHeldCold}
 use Rattle.cold_terms.specs.Outline.{ColdOutline, OutlineFits, bare, outline_in}
-use Rattle.cold_terms.proofs.ColdParts.{IsClosedBy, IsUndone, cold-held}
+use Rattle.projective_bounds.proofs.ColdParts.{IsClosedBy, IsUndone, cold-held}
 use Rattle.dep_quast.specs.Context.{variables_at}
 use Rattle.dep_quast.specs.Tree.{SelectionTree}
 use Rattle.dep_quast.specs.Truth.{ReadFits}

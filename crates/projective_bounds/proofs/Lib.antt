@@ -21,6 +21,8 @@ pub mod Outlines
 pub mod Inside
 pub mod Cells
 pub mod Closed
+pub mod ColdParts
+pub mod ColdBranches
 pub mod HeldColds
 pub mod Codes
 pub mod Covered

@@ -7,6 +7,7 @@ pub mod WholeLaws
 pub mod KeptLaws
 pub mod Loops
 pub mod Outline
+pub mod HeldColds
 pub mod Colds
 pub mod Certified
 pub mod Laws

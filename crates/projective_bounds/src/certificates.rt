@@ -11,6 +11,7 @@ ghost use Rattle.projective.specs.Shape.{IsShapeOf};
 ghost use Rattle.projective_bounds.specs.Certified.{HasCoverInReach, IsCertified, IsOfLeastExponent};
 
 use crate::branches::whole_branch;
+use crate::cold_branches::cold_branch;
 use crate::covers::cover_of;
 use crate::fault::CertifyFault;
 use crate::kept_laws::source_trees_keep_loops;
@@ -18,7 +19,6 @@ use crate::law::certified_have_least_exponents;
 use crate::terms::cold_terms;
 use affine_form::Memory;
 use affine_program::Program;
-use cold_terms::cold_branch;
 use iolb_check::{Branch, Certificate};
 use projective::{Projective, source_trees};
 use reuse_paths::Quasts;

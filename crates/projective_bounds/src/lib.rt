@@ -1,9 +1,10 @@
 //! Certificates of projective programs: the partition term of the whole domain for a least cover, and the cold terms of the arrays
-//! (Dinh and Demmel 2020; Olivry et al. 2020).
+//! (Dinh and Demmel 2020; Olivry et al. 2020). Branches of any cold terms of different arrays.
 #![tactic(auto)]
 
 mod branches;
 mod certificates;
+mod cold_branches;
 mod covers;
 mod entries;
 mod families;
@@ -22,5 +23,6 @@ mod whole;
 pub mod whole_laws;
 
 pub use certificates::certify;
+pub use cold_branches::cold_branch;
 pub use fault::CertifyFault;
 pub use whole::stretch_for;

@@ -3,7 +3,7 @@
 ghost use Rattle.std.specs.Prelude.{◌≡◌, ◌≤◌, nat_eq, IfOk, length, map};
 ghost use Rattle.std.specs.List.{AllByRecursion, IsDistinct};
 ghost use Rattle.affine_program.specs.Parts.{meaning};
-ghost use Rattle.cold_terms.specs.Held.{IsHeldCold, IsPlaced, array_read as array_of_cold};
+ghost use Rattle.projective_bounds.specs.HeldColds.{IsHeldCold, IsPlaced, array_read as array_of_cold};
 ghost use Rattle.dep_quast.specs.Tree.{tree_of};
 ghost use Rattle.dep_quast.specs.Truth.{ReadFits};
 ghost use Rattle.projective.specs.Projective.{IsProjective};

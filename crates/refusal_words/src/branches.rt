@@ -5,7 +5,7 @@ use affine_program::Program;
 use dep_quast::Quasts;
 use iolb_check::{Branch, Term};
 use std::alloc::Global;
-use walk_systems::{Piece, cold_pieces, front_pieces, partition_pieces};
+use walk_systems::{Piece, PieceList, cold_pieces, front_pieces, joint_pieces, partition_pieces};
 
 /// The pieces of a term.
 fn pieces_of(
@@ -20,29 +20,31 @@ fn pieces_of(
         Term::Partition(partition) => {
             joined(alloc, partition_pieces(alloc, program, quasts, partition)?)
         }
+        Term::Joint(joint) => joined(alloc, joint_pieces(alloc, program, quasts, joint)?),
     }
 }
 
 /// The pieces of lists, one behind another.
-fn joined(alloc: Global, lists: Vec<Vec<Piece>>) -> Result<Vec<Piece>, Memory> {
+fn joined(alloc: Global, lists: Vec<PieceList>) -> Result<Vec<Piece>, Memory> {
     let mut all = Vec::new(alloc);
     for list in lists {
         let mut list = list;
-        all.append(&mut list)?;
+        all.append(&mut list.pieces)?;
     }
     Ok(all)
 }
 
-/// The pieces of a branch's terms, term by term.
+/// The pieces of a branch's terms, term by term, each a group of its own.
 pub(crate) fn branch_pieces(
     alloc: Global,
     program: &Program,
     quasts: &Quasts,
     branch: &Branch,
-) -> Result<Vec<Vec<Piece>>, Memory> {
+) -> Result<Vec<PieceList>, Memory> {
     let mut lists = Vec::new(alloc);
-    for term in branch.terms.as_slice() {
-        lists.push(pieces_of(alloc, program, quasts, term)?)?;
+    for (group, term) in branch.terms.as_slice().iter().enumerate() {
+        let pieces = pieces_of(alloc, program, quasts, term)?;
+        lists.push(PieceList { group, pieces })?;
     }
     Ok(lists)
 }

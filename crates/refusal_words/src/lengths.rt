@@ -5,6 +5,7 @@ ghost use Rattle.dep_quast.specs.Truth.{ReadFits};
 ghost use Rattle.dep_quast.specs.Views.{read_of};
 
 use crate::branches::branch_pieces;
+use crate::joint_lengths::in_joint;
 use affine_form::Memory;
 use affine_program::Program;
 use asked_systems::{behind, index_at, is_there, key_at};
@@ -81,17 +82,19 @@ fn in_trees(program: &Program, certificate: &Certificate, steps: &[Step]) -> Opt
     in_tree(program, Reader { statement, read }, quast, behind(steps, 2))
 }
 
-/// How many variables the nest of a term has, and how many loops are around the statements whose instances it names.
-fn sizes_of(program: &Program, term: &Term) -> (usize, usize) {
+/// How many variables the nest of a term has, and how many loops are around the statements whose instances it names; none for a
+/// joint term, whose parts have nests.
+fn sizes_of(program: &Program, term: &Term) -> Option<(usize, usize)> {
     match term {
-        Term::Cold(cold) => (
+        Term::Cold(cold) => Some((
             cold.nest.bounds().len(),
             loops_around(program, cold.statement),
-        ),
-        Term::Partition(partition) => (
+        )),
+        Term::Joint(_) => None,
+        Term::Partition(partition) => Some((
             partition.nest.bounds().len(),
             loops_around(program, partition.statement),
-        ),
+        )),
         Term::Wavefront(front) => {
             let around = loops_around(program, front.user.statement).saturating_add(loops_around(
                 program,
@@ -101,31 +104,34 @@ fn sizes_of(program: &Program, term: &Term) -> (usize, usize) {
                 Some(spot) => loops_around(program, spot.statement),
                 None => 0,
             };
-            (front.nest.bounds().len(), around.saturating_add(source))
+            Some((front.nest.bounds().len(), around.saturating_add(source)))
         }
     }
 }
 
-/// How many rows say that the instances that a term names are in their domains.
-fn inside_length(program: &Program, term: &Term) -> usize {
+/// How many rows say that the instances that a term names are in their domains; none for a joint term, whose parts name them.
+fn inside_length(program: &Program, term: &Term) -> Option<usize> {
     match term {
-        Term::Cold(cold) => domain_size(program, cold.statement),
-        Term::Partition(partition) => domain_size(program, partition.statement),
+        Term::Cold(cold) => Some(domain_size(program, cold.statement)),
+        Term::Joint(_) => None,
+        Term::Partition(partition) => Some(domain_size(program, partition.statement)),
         Term::Wavefront(front) => {
             let source = match &front.source {
                 Some(spot) => domain_size(program, spot.statement),
                 None => 0,
             };
-            domain_size(program, front.user.statement)
-                .saturating_add(domain_size(program, front.vertex.statement))
-                .saturating_add(source)
+            Some(
+                domain_size(program, front.user.statement)
+                    .saturating_add(domain_size(program, front.vertex.statement))
+                    .saturating_add(source),
+            )
         }
     }
 }
 
 /// How many numbers a form has that is over the parameters and so many variables more: the coefficients, and the
 /// constant.
-fn form_length(program: &Program, more: usize) -> usize {
+pub(crate) fn form_length(program: &Program, more: usize) -> usize {
     program
         .params()
         .len()
@@ -135,10 +141,10 @@ fn form_length(program: &Program, more: usize) -> usize {
 
 /// How many members the list at a place in those that all terms have has to have.
 fn in_lists(program: &Program, term: &Term, steps: &[Step]) -> Option<usize> {
-    let (variables, loops) = sizes_of(program, term);
+    let (variables, loops) = sizes_of(program, term)?;
     match (key_at(steps, 0)?, index_at(steps, 1)) {
         ("shown" | "sums", None) => Some(variables),
-        ("inside", None) => Some(inside_length(program, term)),
+        ("inside", None) => inside_length(program, term),
         ("nest" | "point", None) => Some(loops),
         ("nest", Some(number)) => Some(form_length(program, number)),
         ("point", Some(_)) => Some(form_length(program, variables)),
@@ -148,7 +154,7 @@ fn in_lists(program: &Program, term: &Term, steps: &[Step]) -> Option<usize> {
 
 /// How many members the list at a place of a credit has to have, behind its number: one for each loop of its statement,
 /// or the numbers of a bound.
-fn in_credit(program: &Program, credit: &Credit, steps: &[Step]) -> Option<usize> {
+pub(crate) fn in_credit(program: &Program, credit: &Credit, steps: &[Step]) -> Option<usize> {
     match (key_at(steps, 0)?, index_at(steps, 1)) {
         ("nest", Some(number)) => Some(form_length(program, number)),
         ("nest" | "shown" | "sums", None) => Some(loops_around(program, credit.statement)),
@@ -242,6 +248,7 @@ fn in_term(
             Ok(Some(open_count(alloc, quasts, reader)?))
         }
         Term::Cold(_) => Ok(None),
+        Term::Joint(joint) => in_joint(alloc, program, quasts, joint, steps),
         Term::Partition(partition) => in_partition(alloc, program, quasts, partition, steps),
         Term::Wavefront(front) => in_front(alloc, program, quasts, front, steps),
     }

@@ -5,6 +5,8 @@
 mod branches;
 mod failed;
 mod heads;
+mod joint_lengths;
+mod joints;
 mod lengths;
 mod schedules;
 mod sources;

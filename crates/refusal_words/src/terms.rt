@@ -1,5 +1,6 @@
 //! What terms are asked to show.
 
+use crate::joints::write_in_joint;
 use affine_form::{Form, Memory, Multipliers, variables_from};
 use affine_program::Program;
 use asked_systems::{NestAsked, behind, index_at, key_at, write_inside, write_range};
@@ -18,29 +19,21 @@ use walk_systems::{
 };
 use wavefront::{Cold, Wavefront};
 
-/// What a term claims of its nest's number of points.
-fn sums_of(term: &Term) -> &Sums {
+/// The bounds of a term's nest, and what is claimed of the number of its points; none for a joint term, whose parts have nests.
+fn counted(term: &Term) -> Option<(&[(Form, Form)], &Sums)> {
     match term {
-        Term::Cold(cold) => &cold.sums,
-        Term::Partition(partition) => &partition.sums,
-        Term::Wavefront(front) => &front.sums,
+        Term::Cold(cold) => Some((cold.nest.bounds(), &cold.sums)),
+        Term::Joint(_) => None,
+        Term::Partition(partition) => Some((partition.nest.bounds(), &partition.sums)),
+        Term::Wavefront(front) => Some((front.nest.bounds(), &front.sums)),
     }
 }
 
-/// The bounds of a term's nest.
-fn bounds_of(term: &Term) -> &[(Form, Form)] {
-    match term {
-        Term::Cold(cold) => cold.nest.bounds(),
-        Term::Partition(partition) => partition.nest.bounds(),
-        Term::Wavefront(front) => front.nest.bounds(),
-    }
-}
-
-/// Writes the system of the multipliers of this number which show that the points of a partition term are instances.
-fn write_points(
+/// Writes the system of the multipliers of this number which show that the points of a nest are instances of a statement.
+pub(crate) fn write_points(
     page: &mut Page,
     nest: NestAsked<'_>,
-    partition: &Partition,
+    statement: u16,
     number: usize,
     shown: &Multipliers,
 ) -> Result<(), Memory> {
@@ -50,14 +43,7 @@ fn write_points(
     }
     let params = nest.program.params().len();
     let point = variables_from(page.alloc(), params + count, params, count)?;
-    write_inside(
-        page,
-        nest,
-        partition.statement,
-        point.as_slice(),
-        number,
-        shown,
-    )
+    write_inside(page, nest, statement, point.as_slice(), number, shown)
 }
 
 /// Writes the system of the multipliers of this number which show that the user, the vertex and the source of a
@@ -108,32 +94,43 @@ fn write_instances(
     term: &Term,
     number: usize,
 ) -> Result<(), Memory> {
-    let inside = match term {
-        Term::Cold(cold) => cold.inside.as_slice(),
-        Term::Partition(partition) => partition.inside.as_slice(),
-        Term::Wavefront(front) => front.inside.as_slice(),
-    };
-    let Some(shown) = inside.get(number) else {
-        return Ok(());
-    };
     match term {
-        Term::Cold(cold) => {
-            write_inside(
-                page,
-                nest,
-                cold.statement,
-                cold.point.as_slice(),
-                number,
-                shown,
-            )
-        }
-        Term::Partition(partition) => write_points(page, nest, partition, number, shown),
-        Term::Wavefront(front) => write_spots(page, nest, front, number, shown),
+        Term::Cold(cold) => match cold.inside.get(number) {
+            Some(shown) => {
+                let point = cold.point.as_slice();
+                write_inside(page, nest, cold.statement, point, number, shown)
+            }
+            None => Ok(()),
+        },
+        Term::Joint(_) => Ok(()),
+        Term::Partition(partition) => match partition.inside.get(number) {
+            Some(shown) => write_points(page, nest, partition.statement, number, shown),
+            None => Ok(()),
+        },
+        Term::Wavefront(front) => match front.inside.get(number) {
+            Some(shown) => write_spots(page, nest, front, number, shown),
+            None => Ok(()),
+        },
     }
 }
 
-/// Writes what is asked at a place in the lists that all terms have: the system of the range of a variable (`shown/k`)
-/// or of an instance (`inside/i`), and how much a polynomial grows (`sums/k`).
+/// Writes what is asked at a place of a nest's count: the system of the range of a variable (`shown/k`), or how much a polynomial
+/// grows (`sums/k`).
+pub(crate) fn write_in_count(
+    page: &mut Page,
+    nest: NestAsked<'_>,
+    sums: &Sums,
+    list: &str,
+    number: usize,
+) -> Result<(), Memory> {
+    match (list, sums.shown().get(number)) {
+        ("shown", Some(shown)) => write_range(page, nest, number, shown),
+        ("sums", _) => write_sum(page, nest.program, nest.bounds, sums.sums(), number),
+        _ => Ok(()),
+    }
+}
+
+/// Writes what is asked at a place in the lists of terms with one nest: of an instance (`inside/i`), or of the nest's count.
 fn write_in_lists(
     page: &mut Page,
     program: &Program,
@@ -141,17 +138,14 @@ fn write_in_lists(
     list: &str,
     number: usize,
 ) -> Result<(), Memory> {
-    let bounds = bounds_of(term);
+    let Some((bounds, sums)) = counted(term) else {
+        return Ok(());
+    };
     let nest = NestAsked { program, bounds };
-    match list {
-        "inside" => write_instances(page, nest, term, number),
-        "sums" => write_sum(page, program, bounds, sums_of(term).sums(), number),
-        "shown" => match sums_of(term).shown().get(number) {
-            Some(shown) => write_range(page, nest, number, shown),
-            None => Ok(()),
-        },
-        _ => Ok(()),
+    if list == "inside" {
+        return write_instances(page, nest, term, number);
     }
+    write_in_count(page, nest, sums, list, number)
 }
 
 /// Writes what is asked at a place in a cold term alone: at a leaf of its read, or of its matrix.
@@ -228,21 +222,23 @@ fn write_in_front(
 }
 
 /// Writes what is asked at a place of a credit's count: `shown/k` or `sums/k`.
-fn write_in_credit(
+pub(crate) fn write_in_credit(
     page: &mut Page,
     program: &Program,
     credit: &Credit,
     steps: &[Step],
 ) -> Result<(), Memory> {
     let bounds = credit.nest.bounds();
-    let Some(number) = index_at(steps, 1) else {
-        return Ok(());
-    };
-    match (key_at(steps, 0), credit.sums.shown().get(number)) {
-        (Some("shown"), Some(shown)) => {
-            write_range(page, NestAsked { program, bounds }, number, shown)
+    match (key_at(steps, 0), index_at(steps, 1)) {
+        (Some(list), Some(number)) => {
+            write_in_count(
+                page,
+                NestAsked { program, bounds },
+                &credit.sums,
+                list,
+                number,
+            )
         }
-        (Some("sums"), _) => write_sum(page, program, bounds, credit.sums.sums(), number),
         _ => Ok(()),
     }
 }
@@ -305,6 +301,7 @@ pub(crate) fn write_in_term(
     }
     match term {
         Term::Cold(cold) => write_in_cold(page, program, quasts, cold, steps),
+        Term::Joint(joint) => write_in_joint(page, program, quasts, joint, condition, steps),
         Term::Partition(term) => write_in_partition(page, program, quasts, term, condition, steps),
         Term::Wavefront(front) => write_in_front(page, program, quasts, front, condition, steps),
     }

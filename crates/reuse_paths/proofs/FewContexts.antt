@@ -34,7 +34,7 @@ module _ (program : AffineProgram) (trees : List (List SelectionTree)) (credits 
   abbrev plain : WalkSetting
   plain = family_setting program trees [] family family.start_label
 
-  walk-few : (reader : List AffineForm) (s : ℕ) (place other : List Step) (rows : List AffineForm) (tree : WalkTree)
+  pub walk-few : (reader : List AffineForm) (s : ℕ) (place other : List Step) (rows : List AffineForm) (tree : WalkTree)
       → AllHold (walk_claims 15 (family_setting program trees credits family reader) s place rows tree) → AllHold (few_walk plain s other rows tree)
   walk-few reader s place other rows (take read entries) h =
       leaves-few (family_setting program trees credits family reader) (read_of s read) (place ++ Key (codes "leaves") ∷ []) (other ++ Key (codes "leaves") ∷ []) rows 0 0 (leaves_at plain (read_of s read)) entries h

@@ -25,13 +25,13 @@ module _ (program : AffineProgram) (trees : List (List SelectionTree)) (credits 
   abbrev plain : WalkSetting
   plain = family_setting program trees [] family family.start_label
 
-  rows-fit : (reader : List AffineForm) (first : ℕ) (regions : List (Option WalkRegion)) → RegionRowsFit (with_credits reader) first regions → RegionRowsFit plain first regions
+  pub rows-fit : (reader : List AffineForm) (first : ℕ) (regions : List (Option WalkRegion)) → RegionRowsFit (with_credits reader) first regions → RegionRowsFit plain first regions
   rows-fit reader first [] rows = tt
   rows-fit reader first (None ∷ regions) rows = rows-fit reader (suc first) regions rows
   rows-fit reader first (Some region ∷ regions) rows = (rows.0, rows-fit reader (suc first) regions rows.1)
 
   -- what a walk that fits takes is there
-  takes-fit : (reader : List AffineForm) (s : ℕ) (tree : WalkTree) → WalkFits (with_credits reader) s tree → TakesFit plain s tree
+  pub takes-fit : (reader : List AffineForm) (s : ℕ) (tree : WalkTree) → WalkFits (with_credits reader) s tree → TakesFit plain s tree
   takes-fit reader s (take read entries) fits =
       record { read_fits = fits.read_fits; there = fits.there; one_each = sym (entries-many (with_credits reader) (read_of s read) (leaves_at plain (read_of s read)) entries fits.entries_fit) }
   takes-fit reader s (test form above below) fits = (fits.0, takes-fit reader s above fits.1, takes-fit reader s below fits.2)

@@ -38,6 +38,7 @@ module _ (program : ProgramParts) where
   fronts-sound [] h = tt
   fronts-sound (terms.Cold cold ∷ ts) h = fronts-sound ts h.1
   fronts-sound (terms.Partition partition ∷ ts) h = fronts-sound ts h.1
+  fronts-sound (terms.Joint joint ∷ ts) h = fronts-sound ts h.1
   fronts-sound (terms.Wavefront front ∷ ts) h =
       front-then (IsSoundFront (meaning program)) (front_of front) (computed_fronts (map claim_of_term ts)) (front_of front).source h.0 (fronts-sound ts h.1)
 
@@ -52,6 +53,7 @@ module _ (program : ProgramParts) where
     fronts-disjoint set [] h = tt
     fronts-disjoint set (terms.Cold cold ∷ ts) h = fronts-disjoint set ts h.1
     fronts-disjoint set (terms.Partition partition ∷ ts) h = fronts-disjoint set ts h.1
+    fronts-disjoint set (terms.Joint joint ∷ ts) h = fronts-disjoint set ts h.1
     fronts-disjoint set (terms.Wavefront front ∷ ts) h = by (front_of front).source (fronts-disjoint set ts h.1) where
       by : (source : Option SpotForms) → AllByRecursion (AreDisjoint set) (words (computed_fronts (map claim_of_term ts)))
           → AllByRecursion (AreDisjoint set) (words ((if is_some source then front_of front ∷ [] else []) ++ computed_fronts (map claim_of_term ts)))
@@ -62,6 +64,7 @@ module _ (program : ProgramParts) where
     fronts-apart [] h = tt
     fronts-apart (terms.Cold cold ∷ ts) h = fronts-apart ts h.1
     fronts-apart (terms.Partition partition ∷ ts) h = fronts-apart ts h.1
+    fronts-apart (terms.Joint joint ∷ ts) h = fronts-apart ts h.1
     fronts-apart (terms.Wavefront front ∷ ts) h = by (front_of front).source (fronts-apart ts h.1) where
       by : (source : Option SpotForms) → ArePairwiseDisjoint (words (computed_fronts (map claim_of_term ts)))
           → ArePairwiseDisjoint (words ((if is_some source then front_of front ∷ [] else []) ++ computed_fronts (map claim_of_term ts)))

@@ -5,7 +5,7 @@ use Rattle.affine_program.specs.Parts.{ProgramParts, meaning}
 use Rattle.domain_count.specs.Count.{CountsPoints}
 use Rattle.domain_count.specs.Points.{count}
 use Rattle.iolb_check.specs.Bounds.{IsCounting}
-use Rattle.iolb_check.specs.Claims.{TermClaim, cold, front, partition}
+use Rattle.iolb_check.specs.Claims.{TermClaim, cold, front, joint, partition}
 use Rattle.iolb_check.specs.Conditions.{AreValuesOf, IsValueOf}
 use Rattle.iolb_check.specs.declared.bound.Value.{Value}
 use Rattle.iolb_check.specs.declared.bound.Value.TheVariants as values
@@ -37,8 +37,10 @@ all-counting program (o ∷ outputs) (q ∷ counts) h = (h.0.counting, all-count
 word-value : (program : AffineProgram) (term : TermClaim) (v : Value) → IsValueOf program term v → HasWordValue term v
 word-value program (cold claim sums) v h = λ e. absurd cc
 word-value program (partition term) v h = λ e. absurd cc
+word-value program (joint term) v h = λ e. absurd cc
 word-value program (front claim sums outer_sums) (values.Cold q) h = absurd h
 word-value program (front claim sums outer_sums) (values.Partition q) h = absurd h
+word-value program (front claim sums outer_sums) (values.Joint q) h = absurd h
 word-value program (front claim sums outer_sums) (values.Wavefront pairs outer) h = λ e. tt
 
 pub word-values : (program : AffineProgram) (terms : List TermClaim) (vs : List Value) → AreValuesOf program terms vs → HaveWordValues terms vs

@@ -77,6 +77,7 @@ module _ (program : ProgramParts) (trees : List (List SelectionTree)) where
   term-pieces (terms.Cold cold ∷ ts) h = (tt, term-pieces ts h.1)
   term-pieces (terms.Partition partition ∷ ts) h = (tt, term-pieces ts h.1)
   term-pieces (terms.Wavefront front ∷ ts) h = (h.0.fits.parts, term-pieces ts h.1)
+  term-pieces (terms.Joint joint ∷ ts) h = (tt, term-pieces ts h.1)
 
   branch-pieces : (branches : List Branch) → BranchesFit program trees branches → AllByRecursion (λ (it : Branch). AllByRecursion (HasWordPiece program) it.terms.items) branches
   branch-pieces [] h = tt

@@ -8,7 +8,7 @@ use Rattle.footprint_pieces.specs.declared.piece.Target.{Target}
 use Rattle.footprint_pieces.specs.declared.piece.Target.TheVariants.{Instance}
 use Rattle.footprint_pieces.specs.DisjointClaims.{pairwise_systems, same_target, shared_system, shared_systems, systems_with, systems_with_lists, with_target}
 use Rattle.footprint_pieces.specs.Pieces.{FootprintPiece}
-use Rattle.iolb_check.specs.Claims.{TermClaim, cold, front, front_term, partition}
+use Rattle.iolb_check.specs.Claims.{TermClaim, cold, front, front_term, joint, partition}
 use Rattle.reuse_paths.specs.Walks.{SpotForms}
 use Rattle.wavefront.specs.FrontPieces.{front_piece, front_target}
 use Rattle.last_writers.specs.Outputs.{output_piece}
@@ -64,6 +64,7 @@ module _ (program : AffineProgram) where
   with-words o [] = refl
   with-words o (cold claim sums ∷ terms) = with-words o terms
   with-words o (partition term ∷ terms) = with-words o terms
+  with-words o (joint term ∷ terms) = with-words o terms
   with-words o (front claim sums outer_sums ∷ terms) = by claim.source refl (with-words o terms) where
     either : (b : Bool) (s : ℕ) → length (map (shared_system program (output_piece program o)) (with_words o terms)) ≡ length (words_with o terms)
         → length (map (shared_system program (output_piece program o)) (cond b (front_piece program (front_term claim sums outer_sums) ∷ (with_words o terms)) (with_words o terms))) ≡ length (cond b (s ∷ (words_with o terms)) (words_with o terms))

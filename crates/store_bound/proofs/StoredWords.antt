@@ -120,8 +120,10 @@ module _ (program : ProgramParts) (value : TermsHaveTheValue) (sizes : List ℤ)
   words-low (t ∷ ts) [] sounds counts are = absurd counts
   words-low (terms.Cold cold ∷ ts) (v ∷ vs) sounds counts are = words-low ts vs sounds.1 counts.1 are.1
   words-low (terms.Partition partition ∷ ts) (v ∷ vs) sounds counts are = words-low ts vs sounds.1 counts.1 are.1
+  words-low (terms.Joint joint ∷ ts) (v ∷ vs) sounds counts are = words-low ts vs sounds.1 counts.1 are.1
   words-low (terms.Wavefront front ∷ ts) (values.Cold q ∷ vs) sounds counts are = absurd counts.0
   words-low (terms.Wavefront front ∷ ts) (values.Partition q ∷ vs) sounds counts are = absurd counts.0
+  words-low (terms.Wavefront front ∷ ts) (values.Joint q ∷ vs) sounds counts are = absurd counts.0
   words-low (terms.Wavefront front ∷ ts) (values.Wavefront pairs outer ∷ vs) sounds counts are = by (front_of front).source refl (words-low ts vs sounds.1 counts.1 are.1) where
     by : (source : Option SpotForms) → (front_of front).source ≡ source → sum_by valued_at (values_of ts vs) ≤ sum_by stored (sets (word_footprints (meaning program) (fronts_of ts)))
         → sum_by valued_at (if is_some (option_map (λ (spot : SpotForms). spot.statement) source) then values.Wavefront pairs outer ∷ (values_of ts vs) else (values_of ts vs))

@@ -1,6 +1,6 @@
 -- The wavefront terms whose words are counted among the stores: those of the branch that is named whose words were computed.
 use Rattle.std.specs.Prelude.{ℕ, Bool, if◌then◌else◌, is_some, List, [], ◌∷◌, flat_map, map, Option, Some, None, option_map, slice_index_or}
-use Rattle.iolb_check.specs.Claims.{BranchClaim, CertificateClaim, TermClaim, cold, front, front_term, partition}
+use Rattle.iolb_check.specs.Claims.{BranchClaim, CertificateClaim, TermClaim, cold, front, front_term, joint, partition}
 use Rattle.iolb_check.specs.declared.bound.Value.{Value}
 use Rattle.iolb_check.specs.Limits.{CertificateParts}
 use Rattle.iolb_check.specs.declared.term.Branch.{Branch}
@@ -13,6 +13,7 @@ abbrev pub word_statement : TermClaim → Option ℕ
 word_statement (cold claim sums) = None
 word_statement (partition term) = None
 word_statement (front claim sums outer_sums) = option_map (λ (spot : SpotForms). spot.statement) claim.source
+word_statement (joint term) = None
 
 -- whether a term is one of these
 abbrev pub is_computed : TermClaim → Bool
@@ -23,6 +24,7 @@ abbrev pub computed_front : TermClaim → List WavefrontTerm
 computed_front (cold claim sums) = []
 computed_front (partition term) = []
 computed_front (front claim sums outer_sums) = if is_some claim.source then front_term claim sums outer_sums ∷ [] else []
+computed_front (joint term) = []
 
 abbrev pub computed_fronts : List TermClaim → List WavefrontTerm
 computed_fronts terms = flat_map computed_front terms

@@ -5,7 +5,7 @@ use Rattle.affine_program.specs.Assumptions.{IsFirstUnmet}
 use Rattle.iolb_check.specs.Bounds.{HasWideBranch, IsWideAt, term_of, terms_of}
 use Rattle.iolb_check.specs.Claims.{TermClaim}
 use Rattle.iolb_check.specs.declared.bound.Value.{Value}
-use Rattle.iolb_check.specs.declared.bound.Value.TheVariants.{Cold, Partition, Wavefront}
+use Rattle.iolb_check.specs.declared.bound.Value.TheVariants.{Cold, Joint, Partition, Wavefront}
 use Rattle.iolb_check.specs.declared.value_fault.ValueFault.{ValueFault}
 use Rattle.iolb_check.specs.declared.value_fault.ValueFault.TheVariants.{OutsideAssumption, Wide}
 use Rattle.iolb_model.specs.Bound.{AreMet, branch_value, count_value, term_value}
@@ -42,6 +42,7 @@ abbrev pub IsWavefront : Value → Type 0
 IsWavefront (Cold count) = ⊥
 IsWavefront (Partition bound) = ⊥
 IsWavefront (Wavefront pairs outer) = ⊤
+IsWavefront (Joint bound) = ⊥
 
 -- the value of a term, if its words were computed, and else 0
 abbrev pub word_value : TermClaim → Value → List ℤ → ℕ → ℕ

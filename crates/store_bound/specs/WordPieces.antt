@@ -11,3 +11,4 @@ abbrev pub HasWordPiece : ProgramParts → Term → Type 0
 HasWordPiece program (terms.Cold cold) = ⊤
 HasWordPiece program (terms.Partition partition) = ⊤
 HasWordPiece program (terms.Wavefront front) = PartsFit (meaning program) (front_of front)
+HasWordPiece program (terms.Joint joint) = ⊤

@@ -37,15 +37,16 @@ pub(crate) fn walking_from<'a>(
     }
 }
 
-/// The system of a term's points: the instances of its statement in its nest.
+/// The system of the points where walks start: the instances of a statement in a nest.
 pub(crate) fn start_system(
     alloc: Global,
     walking: &Walking<'_>,
-    term: &Partition,
+    statement: u16,
+    nest: &Nest,
 ) -> Result<System, Memory> {
-    let frame = frame_of(walking, term.statement);
+    let frame = frame_of(walking, statement);
     let mut system = frame.system(alloc)?;
-    let rows = frame.within(alloc, term.nest.bounds())?;
+    let rows = frame.within(alloc, nest.bounds())?;
     system.push_all(alloc, rows.as_slice(), Says::Nest)?;
     Ok(system)
 }
@@ -109,7 +110,7 @@ pub fn write_family(
     }
     let credits = term.credits.as_slice();
     let walking = walking_from(program, quasts, &none, credits, family, label, condition);
-    let system = start_system(page.alloc(), &walking, term)?;
+    let system = start_system(page.alloc(), &walking, term.statement, &term.nest)?;
     write_walk(
         page,
         &walking,

@@ -15,6 +15,14 @@ pub(crate) fn loops_of(program: &Program, statement: u16) -> &[(Form, Form)] {
     }
 }
 
+/// The rows of the guards around a statement; none where it isn't there.
+fn guards_of(program: &Program, statement: u16) -> &[Form] {
+    match program.statements().get(usize::from(statement)) {
+        Some(there) => there.guards.as_slice(),
+        None => &[],
+    }
+}
+
 /// The reference of a read, where it is there.
 pub(crate) fn reference_at(program: &Program, reader: Reader) -> Option<&Reference> {
     let there = program.statements().get(usize::from(reader.statement))?;
@@ -47,7 +55,7 @@ pub(crate) fn nest_point(
 
 /// Puts the assumptions and the rows of a nest into a system, whose variables are the parameters, the nest's, and
 /// others.
-fn push_nest(
+pub(crate) fn push_nest(
     alloc: Global,
     system: &mut System,
     program: &Program,
@@ -131,6 +139,10 @@ impl Frame<'_> {
         let mut system = System::new(alloc, names);
         push_nest(alloc, &mut system, self.program, self.bounds)?;
         let rows = self.within(alloc, loops_of(self.program, self.statement))?;
+        system.push_all(alloc, rows.as_slice(), Says::Reader)?;
+        let point = self.reading_point(alloc)?;
+        let guards = guards_of(self.program, self.statement);
+        let rows = put_all(alloc, self.vars(), guards, point.as_slice())?;
         system.push_all(alloc, rows.as_slice(), Says::Reader)?;
         Ok(system)
     }

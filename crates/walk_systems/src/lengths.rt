@@ -7,6 +7,7 @@ use affine_program::Program;
 use asked_systems::{behind, index_at, key_at};
 use certificate_fit::counts::loops_around;
 use claims::Step;
+use cover_lp::CoordSet;
 use dep_quast::Quasts;
 use dep_quast::reader::Reader;
 use domain_count::Nest;
@@ -15,7 +16,7 @@ use reuse_paths::{Aim, Credit, Family, Leaf, Reach, Region, Spot, Walk, Walking,
 use std::alloc::Global;
 
 /// How many numbers a form has over so many variables: the coefficients, and the constant.
-fn form_length(outer: usize, more: usize) -> usize {
+pub(crate) fn form_length(outer: usize, more: usize) -> usize {
     outer.saturating_add(more).saturating_add(1)
 }
 
@@ -85,7 +86,7 @@ fn taken_length(
 }
 
 /// How long the list at a place of a walk from instances of a statement has to be.
-fn walk_length(
+pub(crate) fn walk_length(
     alloc: Global,
     walking: &Walking<'_>,
     statement: u16,
@@ -113,7 +114,7 @@ fn walk_length(
 }
 
 /// How long the list at a place of a region has to be: a row, or one of its walk.
-fn region_length(
+pub(crate) fn region_length(
     alloc: Global,
     walking: &Walking<'_>,
     statement: u16,
@@ -127,10 +128,10 @@ fn region_length(
     walk_length(alloc, walking, statement, &region.tree, behind(steps, 1))
 }
 
-/// How long a label is, or a form of it, which is over so many variables.
-fn label_length(family: &Family, vars: usize, steps: &[Step]) -> Option<usize> {
+/// How long a label of a family with this set is, or a form of it, which is over so many variables.
+pub(crate) fn label_length(set: &CoordSet, vars: usize, steps: &[Step]) -> Option<usize> {
     if steps.is_empty() {
-        Some(family.set.coords().len())
+        Some(set.coords().len())
     } else {
         Some(form_length(vars, 0))
     }
@@ -164,20 +165,20 @@ fn node_length(
     );
     let vars = outer_variables(&walking).saturating_add(loops_around(program, statement));
     match (key_at(steps, 1), &node.region) {
-        (Some("label"), _) => Ok(label_length(family, vars, behind(steps, 2))),
+        (Some("label"), _) => Ok(label_length(&family.set, vars, behind(steps, 2))),
         (_, Some(region)) => region_length(alloc, &walking, statement, region, behind(steps, 2)),
         _ => Ok(None),
     }
 }
 
-/// How long the list at a place of a family's labels of cells has to be, behind `inputs`.
-fn input_length(program: &Program, family: &Family, steps: &[Step]) -> Option<usize> {
+/// How long the list at a place of the labels of cells of a family with this set has to be, behind `inputs`.
+pub(crate) fn input_length(program: &Program, set: &CoordSet, steps: &[Step]) -> Option<usize> {
     let Some(number) = index_at(steps, 0) else {
         return Some(program.arrays().len());
     };
     let (_, rank) = program.arrays().get(number)?;
     let vars = program.params().len().saturating_add(usize::from(*rank));
-    label_length(family, vars, behind(steps, 1))
+    label_length(set, vars, behind(steps, 1))
 }
 
 /// How long the list at a place of a family of a partition term has to be, where that is known.
@@ -192,12 +193,12 @@ pub fn family_length(
     let none = Nest::new(Vec::new(alloc));
     let rest = behind(steps, 1);
     match (key_at(steps, 0), key_at(steps, 1)) {
-        (Some("inputs"), _) => Ok(input_length(program, family, rest)),
+        (Some("inputs"), _) => Ok(input_length(program, &family.set, rest)),
         (Some("nodes"), _) => node_length(alloc, program, quasts, &none, term, family, rest),
         (Some("start"), Some("label")) => {
             let loops = loops_around(program, term.statement);
             let vars = program.params().len().saturating_add(loops);
-            Ok(label_length(family, vars, behind(steps, 2)))
+            Ok(label_length(&family.set, vars, behind(steps, 2)))
         }
         (Some("start"), _) => {
             let (label, credits) = (family.start_label.as_slice(), term.credits.as_slice());

@@ -4,6 +4,8 @@ use crate::pieces::{cold_word, front_word};
 use affine_form::{Form, Matrix, Memory};
 use affine_program::Program;
 use asked_systems::Sum;
+use cover_lp::CoordSet;
+use joint_partition::{Joint, Part};
 use k_partition::Partition;
 use plain_pages::Page;
 use reuse_paths::Family;
@@ -78,6 +80,25 @@ pub fn write_front_inverse(
     write_word_entry(page, program, &term.inverse, word.as_slice(), row, column)
 }
 
+/// Writes an entry of the product of a part's matrix with the coefficients of the loop values in its map.
+pub fn write_image_inverse(
+    page: &mut Page,
+    program: &Program,
+    part: &Part,
+    row: usize,
+    column: usize,
+) -> Result<(), Memory> {
+    let vars = program
+        .params()
+        .len()
+        .saturating_add(part.nest.bounds().len());
+    let mut image = Vec::new(page.alloc());
+    for form in part.image.as_slice() {
+        image.push(Sum::of(page.alloc(), vars, form)?)?;
+    }
+    write_word_entry(page, program, &part.inverse, image.as_slice(), row, column)
+}
+
 /// Writes an entry of the product of a partition term's inverse with its matrix.
 pub fn write_unit(
     page: &mut Page,
@@ -93,22 +114,40 @@ pub fn write_unit(
     write_entry(page, row, column, sum, 1)
 }
 
-/// Writes how great the weights of the sets with a coordinate are together, and have to be.
-pub fn write_cover(page: &mut Page, term: &Partition, coordinate: usize) -> Result<(), Memory> {
-    let mut sum: u32 = 0;
-    for family in term.families.as_slice() {
-        if let Ok(number) = u8::try_from(coordinate) {
-            if family.set.coords().contains(&number) {
-                sum = sum.saturating_add(u32::from(family.weight));
-            }
-        }
+/// The weight of a set, where it has a coordinate, and else 0.
+fn weight_at(set: &CoordSet, weight: u8, coordinate: usize) -> u32 {
+    match u8::try_from(coordinate) {
+        Ok(number) if set.coords().contains(&number) => u32::from(weight),
+        _ => 0,
     }
-    let (alloc, q) = (page.alloc(), term.q);
+}
+
+/// Writes how great the weights of the sets with a coordinate are together, and have to be.
+fn write_weights(page: &mut Page, coordinate: usize, sum: u32, q: u8) -> Result<(), Memory> {
+    let alloc = page.alloc();
     let words = format!(in alloc;
         "weights of the sets with coordinate {coordinate}: {sum} here, {q} or more called for"
     )?;
     page.line(words.as_str())?;
     Ok(())
+}
+
+/// Writes how great the weights of a partition term's sets with a coordinate are together, and have to be.
+pub fn write_cover(page: &mut Page, term: &Partition, coordinate: usize) -> Result<(), Memory> {
+    let mut sum: u32 = 0;
+    for family in term.families.as_slice() {
+        sum = sum.saturating_add(weight_at(&family.set, family.weight, coordinate));
+    }
+    write_weights(page, coordinate, sum, term.q)
+}
+
+/// Writes how great the weights of a joint term's sets with a coordinate are together, and have to be.
+pub fn write_joint_cover(page: &mut Page, term: &Joint, coordinate: usize) -> Result<(), Memory> {
+    let mut sum: u32 = 0;
+    for family in term.families.as_slice() {
+        sum = sum.saturating_add(weight_at(&family.set, family.weight, coordinate));
+    }
+    write_weights(page, coordinate, sum, term.q)
 }
 
 /// Writes numbers, each behind a blank.

@@ -1,6 +1,6 @@
 //! Systems of pairs of pieces.
 
-use crate::pieces::Piece;
+use crate::pieces::{Piece, PieceList};
 use crate::points::equal_rows;
 use crate::walks::write_pointless;
 use affine_form::{Memory, Multipliers};
@@ -38,30 +38,32 @@ fn push_between<'a>(
     Ok(())
 }
 
-/// Puts the pairs of pieces of a list and of each of later lists behind those that are there.
+/// Puts the pairs of pieces of a list and of each of later lists of another group behind those that are there.
 fn push_later<'a>(
     pairs: &mut Vec<Pair<'a>>,
-    pieces: &'a [Piece],
-    later: &'a [Vec<Piece>],
+    list: &'a PieceList,
+    later: &'a [PieceList],
 ) -> Result<(), Memory> {
     for others in later {
-        push_between(pairs, pieces, others.as_slice())?;
+        if list.group != others.group {
+            push_between(pairs, list.pieces.as_slice(), others.pieces.as_slice())?;
+        }
     }
     Ok(())
 }
 
-/// The pairs of pieces of each two of these lists that have words of one array or statement, in their order.
-fn pairs_of<'a>(alloc: Global, lists: &'a [Vec<Piece>]) -> Result<Vec<Pair<'a>>, Memory> {
+/// The pairs of pieces of each two of these lists of different groups that have words of one array or statement, in their order.
+fn pairs_of<'a>(alloc: Global, lists: &'a [PieceList]) -> Result<Vec<Pair<'a>>, Memory> {
     let mut pairs = Vec::new(alloc);
-    for (number, pieces) in lists.iter().enumerate() {
+    for (number, list) in lists.iter().enumerate() {
         let later = lists.get(number.saturating_add(1)..).unwrap_or(&[]);
-        push_later(&mut pairs, pieces.as_slice(), later)?;
+        push_later(&mut pairs, list, later)?;
     }
     Ok(pairs)
 }
 
-/// How many pairs of pieces of each two of these lists have words of one array or statement.
-pub fn pair_count(alloc: Global, lists: &[Vec<Piece>]) -> Result<usize, Memory> {
+/// How many pairs of pieces of each two of these lists of different groups have words of one array or statement.
+pub fn pair_count(alloc: Global, lists: &[PieceList]) -> Result<usize, Memory> {
     Ok(pairs_of(alloc, lists)?.len())
 }
 
@@ -133,12 +135,12 @@ fn system_of(
     Ok(system)
 }
 
-/// Writes the system of the pair of this number of pieces of each two of these lists, which multipliers are to show to
-/// have no word in common.
+/// Writes the system of the pair of this number of pieces of each two of these lists of different groups, which multipliers are to
+/// show to have no word in common.
 pub fn write_pair(
     page: &mut Page,
     program: &Program,
-    lists: &[Vec<Piece>],
+    lists: &[PieceList],
     number: usize,
     shown: &Multipliers,
 ) -> Result<(), Memory> {

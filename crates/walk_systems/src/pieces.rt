@@ -32,6 +32,13 @@ pub struct Piece {
     pub(crate) point: Vec<Sum>,
 }
 
+/// The pieces of a family or of a term. Lists of one group may have words in common.
+#[derive(Drop)]
+pub struct PieceList {
+    pub group: usize,
+    pub pieces: Vec<Piece>,
+}
+
 /// The subscripts of a read at an instance with these loop values, forms over a nest's variables.
 fn cell_word(
     alloc: Global,
@@ -219,7 +226,7 @@ fn push_taken(
 }
 
 /// Puts the pieces of a walk behind others, `yes` before `no`.
-fn push_walk(
+pub(crate) fn push_walk(
     alloc: Global,
     pieces: &mut Vec<Piece>,
     walking: &Walking<'_>,
@@ -229,9 +236,9 @@ fn push_walk(
 ) -> Result<(), Memory> {
     match walk {
         Walk::Test { form, yes, no } => {
-            let above = with_test(alloc, system, form, true)?;
+            let above = with_test(alloc, system, form, true, Says::Walk)?;
             push_walk(alloc, pieces, walking, statement, &above, yes)?;
-            let below = with_test(alloc, system, form, false)?;
+            let below = with_test(alloc, system, form, false, Says::Walk)?;
             push_walk(alloc, pieces, walking, statement, &below, no)
         }
         Walk::Take { read, leaves } => {
@@ -272,7 +279,7 @@ fn family_pieces(
 ) -> Result<Vec<Piece>, Memory> {
     let none = Nest::new(Vec::new(alloc));
     let walking = walking_from(program, quasts, &none, &[], family, &[], 0);
-    let system = start_system(alloc, &walking, term)?;
+    let system = start_system(alloc, &walking, term.statement, &term.nest)?;
     let mut pieces = Vec::new(alloc);
     push_walk(
         alloc,
@@ -288,16 +295,17 @@ fn family_pieces(
     Ok(pieces)
 }
 
-/// The pieces of a partition term's families, family by family.
+/// The pieces of a partition term's families, family by family, each a group of its own.
 pub fn partition_pieces(
     alloc: Global,
     program: &Program,
     quasts: &Quasts,
     term: &Partition,
-) -> Result<Vec<Vec<Piece>>, Memory> {
+) -> Result<Vec<PieceList>, Memory> {
     let mut lists = Vec::new(alloc);
-    for family in term.families.as_slice() {
-        lists.push(family_pieces(alloc, program, quasts, term, family)?)?;
+    for (group, family) in term.families.as_slice().iter().enumerate() {
+        let pieces = family_pieces(alloc, program, quasts, term, family)?;
+        lists.push(PieceList { group, pieces })?;
     }
     Ok(lists)
 }

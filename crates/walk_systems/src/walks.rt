@@ -243,17 +243,18 @@ fn write_taken(
     write_at_entry(page, walking, reader, &inner, leaf.source, entry, rest)
 }
 
-/// A system with one row more, that of a walk's test on the side of `yes`, or of `no`.
+/// A system with one row more, that of a walk's or a split's test on the side of `yes`, or of `no`.
 pub(crate) fn with_test(
     alloc: Global,
     system: &System,
     form: &Form,
     yes: bool,
+    says: Says,
 ) -> Result<System, Memory> {
     let mut inner = system.try_clone(alloc)?;
     let at = Sum::of(alloc, system.vars(), form)?;
     let row = if yes { at } else { at.opposite(alloc)? };
-    inner.push(row, Says::Walk)?;
+    inner.push(row, says)?;
     Ok(inner)
 }
 
@@ -269,7 +270,7 @@ pub(crate) fn write_walk(
     match walk {
         Walk::Test { form, yes, no } => {
             let is_yes = key_at(steps, 0) == Some("yes");
-            let inner = with_test(page.alloc(), system, form, is_yes)?;
+            let inner = with_test(page.alloc(), system, form, is_yes, Says::Walk)?;
             let rest = behind(steps, 1);
             if is_yes {
                 write_walk(page, walking, statement, &inner, yes, rest)

@@ -22,7 +22,7 @@ use Rattle.affine_program.specs.Domain.{depth_of, domain_rows, guards_at}
 use Rattle.affine_program.specs.Parts.{ProgramParts, IsProgram, meaning, statement_of}
 use Rattle.claims.specs.Shown.{IsFew}
 use Rattle.cold_terms.specs.Outline.{ColdOutline, OutlineFits, outline_in}
-use Rattle.cold_terms.proofs.ColdParts.{IsUndone}
+use Rattle.projective_bounds.proofs.ColdParts.{IsUndone}
 use Rattle.cold_terms.proofs.EntryLaws.{stop-closes}
 use Rattle.dep_quast.specs.Context.{ReadOf, context, earlier_write, earlier_writes, reference_of, variables_at}
 use Rattle.dep_quast.specs.Levels.{levels, writers}

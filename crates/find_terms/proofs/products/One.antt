@@ -252,6 +252,7 @@ colds-are (read ∷ reads) (cold ∷ colds) (v ∷ vs) below each are =
       own (values.Cold count) is = ap values.Cold (cold-is read cold count below.0 each.0 is)
       own (values.Partition bound) is = absurd is
       own (values.Wavefront pairs outer) is = absurd is
+      own (values.Joint bound) is = absurd is
 
 -- ---- the certificate
 
@@ -282,6 +283,7 @@ one-certified certificate all made meets = (is, narrow-all) where
     by [] h = absurd h
     by (values.Cold count ∷ rest) h = absurd h.0
     by (values.Wavefront pairs outer ∷ rest) h = absurd h.0
+    by (values.Joint bound ∷ rest) h = absurd h.0
     by (values.Partition bound ∷ rest) h =
         let trees = trees_of certificate.quasts in
         let term = partition_of is.whole.term in

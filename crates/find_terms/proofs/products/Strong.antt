@@ -15,7 +15,7 @@ use Rattle.dep_quast.specs.Truth.{ReadFits}
 use Rattle.domain_count.specs.Count.{IsCount}
 use Rattle.poly_tree.specs.Poly.{Quotient}
 use Rattle.wavefront.specs.declared.cold.Cold.{Cold}
-use Rattle.cold_terms.specs.Held.{array_read, reader_of}
+use Rattle.projective_bounds.specs.HeldColds.{array_read, reader_of}
 use Rattle.iolb_check.specs.Bounds.{IsWideBranch, terms_of}
 use Rattle.iolb_check.specs.Claims.{BranchClaim, claim_of_branch, claim_of_term}
 use Rattle.iolb_check.specs.Conditions.{AreBranchValues, AreValuesOf, IsValueOf}
@@ -90,6 +90,7 @@ module _ (n : ℕ) where
     one (values.Cold count) is = ap values.Cold (count-is cold each.0.opens count is)
     one (values.Partition bound) is = absurd is
     one (values.Wavefront pairs outer) is = absurd is
+    one (values.Joint bound) is = absurd is
 
   -- ---- as many as twice the products, or 16
 

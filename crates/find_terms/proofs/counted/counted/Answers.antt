@@ -2,7 +2,7 @@ use Rattle.std.proofs.Common.{◌≡◌, sym, ◌∙◌, ap, subst, Bool, true, 
 use Rattle.std.specs.Prelude.{None, Err}
 use Rattle.iolb_model.specs.Form.{AffineForm}
 use Rattle.affine_program.specs.Parts.{meaning}
-use Rattle.cold_terms.specs.Held.{ArePolynomials}
+use Rattle.projective_bounds.specs.HeldColds.{ArePolynomials}
 use Rattle.poly_tree.specs.Poly.{Quotient}
 use Rattle.find_terms.specs.Counted.{AreRanges, FindsRanges}
 use Rattle.find_terms.proofs.CountLaws.{counted-some, first-none, misfit-none, ranges-none, wide-none}

@@ -11,7 +11,7 @@ use Rattle.wavefront.specs.Term.{ColdTerm, inside_goals, nest_system, nest_varia
 use Rattle.find_terms.specs.Counted.{AreCounted, FindsCount}
 use Rattle.cold_terms.specs.Entries.{FindsEntries}
 use Rattle.cold_terms.specs.Outline.{ColdOutline, bare, outline_of}
-use Rattle.cold_terms.proofs.ColdParts.{IsClosedBy, IsInside, IsUndone}
+use Rattle.projective_bounds.proofs.ColdParts.{IsClosedBy, IsInside, IsUndone}
 use Rattle.find_terms.proofs.ColdLaws.{cold-shown, shown-closed, shown-counted, shown-inside, shown-undone}
 use Rattle.find_terms.proofs.filling.filled.Goals as goal
 

@@ -12,7 +12,7 @@ use Rattle.std.proofs.Common.{arith}
 use Rattle.iolb_cert.proofs.text.certificate_text.Goals as goal
 
 -- what is read back is within the limits, and so it is plain
-is-plain : (parts : CertificateParts) → IsReadBack certificate_shape (written_of parts) → IsPlain 32 (certificate_data (written_of parts))
+is-plain : (parts : CertificateParts) → IsReadBack certificate_shape (written_of parts) → IsPlain 33 (certificate_data (written_of parts))
 is-plain parts read = plain parts (IfOk-at_ok certificate_shape.IsWithin read (certificate_shape.kept (certificate_data (written_of parts))))
 
 pub returns-clause-text : goal.returns-clause-text

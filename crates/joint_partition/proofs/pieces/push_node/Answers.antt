@@ -23,7 +23,7 @@ use Rattle.reuse_paths.specs.WalkSettings.{WalkSetting, region_context, region_v
 use Rattle.reuse_paths.specs.WalkViews.{walk_of}
 use Rattle.reuse_paths.specs.Walks.{WalkRegion, WalkTree, boxed_region, tree_of_walk}
 use Rattle.reuse_paths.proofs.FamilyCover.{same-pieces}
-use Rattle.joint_partition.proofs.FromTold.{takes-fit}
+use Rattle.reuse_paths.proofs.ToldFamilies.{takes-fit}
 use Rattle.joint_partition.specs.JointPieces.{HasNodePieces}
 use Rattle.joint_partition.specs.Term.{credited_nests, way_node, way_walks}
 use Rattle.joint_partition.specs.View.{family_of, joint_of, way_of}

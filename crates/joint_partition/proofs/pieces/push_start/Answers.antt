@@ -10,7 +10,7 @@ use Rattle.reuse_paths.specs.FamilyClaims.{family_setting}
 use Rattle.reuse_paths.specs.FewContexts.{ReadersFit, TakesFit}
 use Rattle.reuse_paths.specs.WalkSettings.{WalkSetting}
 use Rattle.reuse_paths.specs.WalkViews.{walk_of}
-use Rattle.joint_partition.proofs.FromTold.{takes-fit}
+use Rattle.reuse_paths.proofs.ToldFamilies.{takes-fit}
 use Rattle.iolb_model.specs.declared.limits.TheConstants.{NUMBER_SIZE}
 use Rattle.joint_partition.specs.FamiliesFit.{AreLabeled}
 use Rattle.joint_partition.specs.Term.{WayTerm, credited_nests, labels_of, start_label, walks_from, way_at, way_walks}

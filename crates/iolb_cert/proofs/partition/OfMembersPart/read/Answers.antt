@@ -4,7 +4,7 @@ use Rattle.json_parts.specs.Fields.{reads_object}
 use Rattle.json_parts.proofs.Failing.{made_fails}
 use Rattle.iolb_cert.specs.PartitionTexts.{partition_fields, partition_made, members_shape}
 use Rattle.k_partition.specs.View.{credit_term_of}
-use Rattle.iolb_cert.specs.Read.{IsCreditTerm}
+use Rattle.joint_text.specs.Joint.{IsCreditTerm}
 use Rattle.certificate_parts.proofs.Related.{all-mapped}
 use Rattle.iolb_cert.proofs.partition.OfMembersPart.read.Goals as goal
 

@@ -3,7 +3,7 @@ use Rattle.json_parts.specs.Fields.{object_shape}
 use Rattle.json_parts.proofs.Back.{made_read}
 use Rattle.iolb_cert.specs.PartitionTexts.{partition_fields, partition_made, partition_parts, members_shape}
 use Rattle.iolb_cert.specs.Written.{written_partition}
-use Rattle.iolb_cert.specs.Read.{IsCreditTerm}
+use Rattle.joint_text.specs.Joint.{IsCreditTerm}
 use Rattle.k_partition.specs.View.{credit_term_of}
 use Rattle.certificate_parts.proofs.Related.{all-mapped}
 use Rattle.iolb_cert.proofs.partition.OfMembersPart.write.Goals as goal

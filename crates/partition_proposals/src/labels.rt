@@ -1,0 +1,288 @@
+//! Labels of words along walks back, thought out without multipliers.
+
+use crate::drafts::{Choice, Draft, Way, copied, copied_label, empty_draft};
+use crate::searching::searched;
+use affine_facts::affine::{Affine, copies};
+use affine_facts::combined::all_combined;
+use affine_facts::facts::{Access, Facts, Origin, ReadFacts, TreeLeaf};
+use affine_facts::numbers::short;
+use affine_facts::shown::{all_put, are_same};
+use affine_form::Memory;
+use std::alloc::Global;
+
+/// A label for the instances of a source's statement, which is the reader's label at the source: one of the cell that is
+/// read, if there is one, else one of the source's loop values.
+fn source_label(
+    alloc: Global,
+    facts: &Facts,
+    label: &[Affine],
+    read: &Access,
+    statement: u16,
+    point: &[Affine],
+) -> Result<Option<Vec<Affine>>, Memory> {
+    let params = facts.params;
+    if let Some(of_cell) = all_combined(alloc, params, label, read.subs.as_slice(), None)? {
+        if let Some(source) = facts.statement(statement) {
+            let of_source = all_put(
+                alloc,
+                params,
+                of_cell.as_slice(),
+                source.writes.subs.as_slice(),
+            )?;
+            let at_source = all_put(alloc, params, of_source.as_slice(), point)?;
+            if are_same(at_source.as_slice(), label) {
+                return Ok(Some(of_source));
+            }
+        }
+    }
+    all_combined(alloc, params, label, point, None)
+}
+
+/// Who reads: the statement, its label, and a read.
+#[derive(Clone, Copy)]
+struct Reader<'a> {
+    bounds: &'a [(Affine, Affine)],
+    label: &'a [Affine],
+    read: &'a ReadFacts,
+}
+
+/// Whether an input cell can have the reader's label, with the label of the array's cells where it was missing.
+fn cell_labelled(
+    alloc: Global,
+    facts: &Facts,
+    draft: &mut Draft,
+    reader: Reader,
+    leaf: &TreeLeaf,
+) -> Result<bool, Memory> {
+    let access = &reader.read.access;
+    if draft.cell_label(access.array).is_some() {
+        return Ok(true);
+    }
+    let bounds = if leaf.tests.is_empty() {
+        None
+    } else {
+        Some(reader.bounds)
+    };
+    let subs = access.subs.as_slice();
+    match all_combined(alloc, facts.params, reader.label, subs, bounds)? {
+        Some(cells) => {
+            draft.put_cells(access.array, cells);
+            Ok(true)
+        }
+        None => Ok(false),
+    }
+}
+
+/// Whether an instance can have the reader's label, with the label of its statement where that was missing; and the
+/// statement, if it is new.
+fn source_labelled(
+    alloc: Global,
+    facts: &Facts,
+    draft: &mut Draft,
+    reader: Reader,
+    statement: u16,
+    point: &[Affine],
+) -> Result<(bool, Option<u16>), Memory> {
+    if let Some(known) = draft.label_of(statement) {
+        let at_source = all_put(alloc, facts.params, known, point)?;
+        return Ok((are_same(at_source.as_slice(), reader.label), None));
+    }
+    let access = &reader.read.access;
+    match source_label(alloc, facts, reader.label, access, statement, point)? {
+        Some(of_source) => {
+            draft.put_label(statement, of_source);
+            Ok((true, Some(statement)))
+        }
+        None => Ok((false, None)),
+    }
+}
+
+/// Whether the source at a leaf can have the reader's label, with the labels that were missing; and the statement, if that of
+/// the source is new.
+fn leaf_labelled(
+    alloc: Global,
+    facts: &Facts,
+    draft: &mut Draft,
+    reader: Reader,
+    leaf: &TreeLeaf,
+) -> Result<(bool, Option<u16>), Memory> {
+    match &leaf.origin {
+        Origin::Unknown => Ok((false, None)),
+        Origin::Input => Ok((cell_labelled(alloc, facts, draft, reader, leaf)?, None)),
+        Origin::Instance { statement, point } => {
+            source_labelled(alloc, facts, draft, reader, *statement, point.as_slice())
+        }
+    }
+}
+
+/// Labels of the sources of a read, by the reader's label: the draft with those that were missing, and the statements that
+/// are new in it; nothing where a source can't have this label. Where leaves may be left out, the first source alone has to.
+fn labelled(
+    alloc: Global,
+    facts: &Facts,
+    draft: &mut Draft,
+    reader: Reader,
+    is_strict: bool,
+) -> Result<Option<Vec<u16>>, Memory> {
+    let mut fresh = Vec::new(alloc);
+    let mut is_first = true;
+    for leaf in reader.read.leaves.as_slice() {
+        let (holds, statement) = leaf_labelled(alloc, facts, draft, reader, leaf)?;
+        if !holds && (is_strict || is_first) {
+            return Ok(None);
+        }
+        if let Some(statement) = statement {
+            fresh.push(statement)?;
+        }
+        is_first = false;
+    }
+    Ok(Some(fresh))
+}
+
+/// How well a read goes on the walk from a statement: by the word that the statement updates, by a word at the same
+/// subscripts, or by another.
+pub(crate) fn rank(facts: &Facts, statement: u16, read: &Access) -> u8 {
+    let Some(source) = facts.statement(statement) else {
+        return 2;
+    };
+    if !are_same(source.writes.subs.as_slice(), read.subs.as_slice()) {
+        return 2;
+    }
+    if source.writes.array == read.array {
+        0
+    } else {
+        1
+    }
+}
+
+/// The draft with a step from a statement by a read, where its sources can have the label; and the statements that are new in
+/// it.
+pub(crate) fn stepped_by(
+    alloc: Global,
+    facts: &Facts,
+    draft: &Draft,
+    statement: u16,
+    number: u16,
+    is_strict: bool,
+) -> Result<Option<(Draft, Vec<u16>)>, Memory> {
+    let Some(label) = copied_label(alloc, draft.label_of(statement))? else {
+        return Ok(None);
+    };
+    let Some(source) = facts.statement(statement) else {
+        return Ok(None);
+    };
+    let Some(read) = facts.read(statement, number) else {
+        return Ok(None);
+    };
+    let reader = Reader {
+        bounds: source.nest.as_slice(),
+        label: label.as_slice(),
+        read,
+    };
+    let mut tried = copied(alloc, draft)?;
+    match labelled(alloc, facts, &mut tried, reader, is_strict)? {
+        Some(fresh) => {
+            tried.put_step(statement, number, None);
+            Ok(Some((tried, fresh)))
+        }
+        None => Ok(None),
+    }
+}
+
+/// The draft with a step from a statement by its first read of a rank, whose sources can have the label; and the statements
+/// that are new in it.
+fn stepped(
+    alloc: Global,
+    facts: &Facts,
+    draft: &Draft,
+    statement: u16,
+    wanted: u8,
+    is_strict: bool,
+) -> Result<Option<(Draft, Vec<u16>)>, Memory> {
+    let Some(source) = facts.statement(statement) else {
+        return Ok(None);
+    };
+    for (number, read) in source.reads.as_slice().iter().enumerate() {
+        if rank(facts, statement, &read.access) == wanted {
+            let found = stepped_by(alloc, facts, draft, statement, short(number), is_strict)?;
+            if found.is_some() {
+                return Ok(found);
+            }
+        }
+    }
+    Ok(None)
+}
+
+/// The draft with a step from a statement by the best of its reads.
+fn best_step(
+    alloc: Global,
+    facts: &Facts,
+    draft: &Draft,
+    statement: u16,
+) -> Result<Option<(Draft, Vec<u16>)>, Memory> {
+    for turn in 0..6u8 {
+        let found = stepped(alloc, facts, draft, statement, turn % 3, turn < 3)?;
+        if found.is_some() {
+            return Ok(found);
+        }
+    }
+    Ok(None)
+}
+
+/// A family of a statement's read, with these coordinates and this label. Where walks are to go on, they do so from each
+/// statement that some read of it lets them.
+pub(crate) fn drafted(
+    alloc: Global,
+    facts: &Facts,
+    statement: u16,
+    read: u16,
+    set: &[u8],
+    label: &[Affine],
+    way: Way,
+    choice: Choice,
+) -> Result<Option<Draft>, Memory> {
+    let Some(own_facts) = facts.statement(statement) else {
+        return Ok(None);
+    };
+    let Some(start) = facts.read(statement, read) else {
+        return Ok(None);
+    };
+    let reader = Reader {
+        bounds: own_facts.nest.as_slice(),
+        label,
+        read: start,
+    };
+    let set = Vec::from_slice(alloc, set)?;
+    let own = copies(alloc, label)?;
+    let mut draft = empty_draft(alloc, facts, way, choice, read, set, own)?;
+    let is_strict = choice == Choice::Strict;
+    let Some(waiting) = labelled(alloc, facts, &mut draft, reader, is_strict)? else {
+        return Ok(None);
+    };
+    match choice {
+        _ if way == Way::Short => Ok(Some(draft)),
+        Choice::Tried => searched(alloc, facts, own_facts.depth(), draft, waiting),
+        Choice::Strict | Choice::Loose => Ok(Some(with_steps(alloc, facts, draft, waiting)?)),
+    }
+}
+
+/// The draft with steps from the statements that wait, and from those that these lead to.
+fn with_steps(
+    alloc: Global,
+    facts: &Facts,
+    mut draft: Draft,
+    mut waiting: Vec<u16>,
+) -> Result<Draft, Memory> {
+    for _turn in 0..64 {
+        let Some(next) = waiting.pop() else {
+            return Ok(draft);
+        };
+        if let Some((with_step, fresh)) = best_step(alloc, facts, &draft, next)? {
+            draft = with_step;
+            for statement in fresh.as_slice() {
+                waiting.push(*statement)?;
+            }
+        }
+    }
+    Ok(draft)
+}
