@@ -8,9 +8,7 @@ use Rattle.std.proofs.lemmas.List.{length-map}
 use Rattle.std.proofs.lemmas.List.Sums.{sum_by-cons}
 use Rattle.execution_laws.proofs.Members.{Member, Member-distinct}
 use Rattle.iolb_model.specs.Graph.{distinct}
-use Rattle.pebble_game.proofs.Marks.{all-filtered}
-use Rattle.pebble_game.proofs.WellFormed.{IsDistinct-distinct}
-use Rattle.execution_laws.proofs.Ordered.{All-member}
+use Rattle.pebble_game.proofs.WellFormed.{All-distinct, IsDistinct-distinct}
 use Rattle.k_partition.proofs.TermCovers.{summed}
 use Rattle.uniform_cover.specs.Products.{product_by}
 use Rattle.uniform_cover.proofs.ProductLemmas.{product_by-map}
@@ -98,12 +96,6 @@ over-range n of (x ∷ numbers) differ below one =
           here (inr m) = none m
 
 -- ---- the numbers of groups
-
-All-distinct : (P : ℕ → Type 0) (xs : List ℕ) → AllByRecursion P xs → AllByRecursion P (distinct nat_eq xs)
-All-distinct P [] h = tt
-All-distinct P (x ∷ xs) h =
-    let rest : AllByRecursion P (distinct nat_eq xs) = All-distinct P xs h.1 in
-    (h.0, all-filtered P (λ (y : ℕ). not (nat_eq x y)) (distinct nat_eq xs) (λ y m t. All-member P (distinct nat_eq xs) y rest m))
 
 numbers-below : (families : List JointFamily) → AllByRecursion (λ (f : JointFamily). f.group < 6) families → AllByRecursion (λ (g : ℕ). g < 6) (map (λ (f : JointFamily). f.group) families)
 numbers-below [] h = tt

@@ -18,7 +18,7 @@ use Rattle.pebble_game.proofs.Marks.{all-filtered, distinct-filtered}
 use Rattle.pebble_game.proofs.InputVertices.{slice_get-below}
 
 -- what holds of each member holds of all that are taken once
-All-distinct : (P : ℕ → Type 0) (xs : List ℕ) → AllByRecursion P xs → AllByRecursion P (distinct nat_eq xs)
+pub All-distinct : (P : ℕ → Type 0) (xs : List ℕ) → AllByRecursion P xs → AllByRecursion P (distinct nat_eq xs)
 All-distinct P [] h = tt
 All-distinct P (x ∷ xs) h =
     let rest : AllByRecursion P (distinct nat_eq xs) = All-distinct P xs h.1 in
