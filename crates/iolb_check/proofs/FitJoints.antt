@@ -1,8 +1,7 @@
 -- Where what is asked of a joint term holds, it fits a program.
-use Rattle.std.proofs.Common.{◌≡◌, sym, ◌∙◌, ap, subst, ℕ, suc, ◌+◌, ◌<◌, ◌≤◌, List, [], ◌∷◌, ◌++◌, length, map, arith}
+use Rattle.std.proofs.Common.{◌≡◌, sym, ◌∙◌, subst, ℕ, suc, ◌+◌, ◌<◌, ◌≤◌, List, [], ◌∷◌, ◌++◌, length, map, arith}
 use Rattle.std.specs.Prelude.{slice_index_or, codes}
 use Rattle.std.specs.List.{AllByRecursion}
-use Rattle.std.proofs.lemmas.List.{length-map}
 use Rattle.base_laws.proofs.Lists.{All-weaken}
 use Rattle.iolb_model.specs.Program.{AffineProgram}
 use Rattle.iolb_model.specs.declared.limits.TheConstants.{NEST_VARIABLES}
@@ -12,35 +11,33 @@ use Rattle.affine_program.specs.Parts.{ProgramParts, meaning}
 use Rattle.claims.specs.Claims.{Claim, AllHold, numbered}
 use Rattle.claims.specs.declared.place.Step.{Step}
 use Rattle.claims.specs.declared.place.Step.TheVariants.{Index, Key}
-use Rattle.claims.proofs.Laws.{AllHold-append, AllHold-left, AllHold-right}
+use Rattle.claims.proofs.Laws.{AllHold-left, AllHold-right}
 use Rattle.dep_quast.specs.Tree.{SelectionTree}
 use Rattle.dep_quast.specs.Trees.{RowsFit}
-use Rattle.iolb_model.specs.Form.{AffineForm}
 use Rattle.reuse_paths.specs.declared.family.Credit.{Credit}
 use Rattle.reuse_paths.specs.WalkFits.{CreditFits}
 use Rattle.joint_partition.specs.declared.limits.TheConstants.{GROUPS, LABELINGS}
 use Rattle.joint_partition.specs.declared.term.Joint.{Joint}
 use Rattle.joint_partition.specs.declared.term.Part.{Part}
-use Rattle.joint_partition.specs.FamiliesFit.{FitsFamily, FitsJoint}
+use Rattle.joint_partition.specs.FamiliesFit.{FitsFamily}
 use Rattle.joint_partition.specs.JointNumbers.{FitsNumbers}
 use Rattle.joint_partition.specs.JointWords.{dimensions_of}
 use Rattle.joint_partition.specs.Limits.{IsSmallJoint, IsSmallJointFamily, IsSmallPart}
 use Rattle.joint_partition.specs.Term.{JointFamily, JointTerm, PartTerm, credited_nests}
-use Rattle.joint_partition.specs.View.{FitsPart, FitsPoints, family_of, joint_of, part_of, split_of}
+use Rattle.joint_partition.specs.View.{FitsPart, FitsPoints, joint_of, part_of}
 use Rattle.certificate_fit.specs.FamilyFit.{credit_count_fit, credit_fit, credit_nest_fit}
 use Rattle.certificate_fit.specs.FamilyViews.{credit_at as held_credit}
-use Rattle.certificate_fit.specs.FitClaims.{so_many}
 use Rattle.certificate_fit.specs.Limits.{AreSmallBounds, IsSmallCredit}
 use Rattle.certificate_fit.specs.TreeFit.{trees_fit}
 use Rattle.certificate_fit.proofs.FamilyParts.{credit-counts, credit-fits, credits-count, credits-fit}
 use Rattle.certificate_fit.proofs.ReadTrees.{columns-many}
 use Rattle.certificate_fit.proofs.TreeParts.{forms-over}
 use Rattle.iolb_check.specs.Fit.{JointTermFits}
-use Rattle.iolb_check.specs.JointFit.{apart_front_fit, distinct_fit, group_family_at, group_targets, inverse_fit, joint_fit, map_fit, nest_of_part, part_at, part_fit, variables_of_pairs}
+use Rattle.iolb_check.specs.JointFit.{apart_front_fit, distinct_fit, group_family_at, inverse_fit, joint_fit, map_fit, nest_of_part, part_at, part_fit}
 use Rattle.iolb_check.specs.PartitionFit.{credit_at}
 use Rattle.iolb_check.proofs.FitJointWalks.{families-fit}
 use Rattle.iolb_check.proofs.FitPartitions.{credits-held, credits-same}
-use Rattle.iolb_check.proofs.FitSplits.{pairs-few, splits-in}
+use Rattle.iolb_check.proofs.FitSplits.{splits-in}
 use Rattle.iolb_check.proofs.JointTargets.{groups-many}
 
 -- the maps have few forms
@@ -150,20 +147,10 @@ module _ (program : ProgramParts) (trees : List (List SelectionTree)) (fit : All
   parts : AllByRecursion (FitsPart program (dimensions_of term)) joint.parts.items
   parts = parts-fit program (dimensions_of term) few (place ++ Key (codes "parts") ∷ []) 0 joint.parts.items small.parts (AllHold-right families-claims parts-claims behind)
 
-  splits-few : length joint.distinct.items < 4294967296
-  splits-few =
-      omega (
-        arith,
-        length-map joint.distinct.items split_of,
-        in-distinct.0,
-        pairs-few P term.parts (omega (arith, small.few_parts, length-map joint.parts.items part_of)),
-      )
-
   points : FitsPoints program joint
   points = record {
     parts = parts;
     splits = splits-in P (place ++ Key (codes "distinct") ∷ []) term.parts term.distinct (parts-deep program (dimensions_of term) few joint.parts.items parts) in-distinct.0 small.distinct in-distinct.1;
-    few_splits = omega (arith, splits-few);
     credits = credits-count program (place ++ Key (codes "credits") ∷ []) IsSmallCredit nest-small 0 joint.credits.items small.credits held-credits;
     few = few;
     light = omega (arith, small.weights);

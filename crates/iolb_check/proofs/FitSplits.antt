@@ -1,5 +1,5 @@
 -- Where what is asked of splits holds, they fit the pairs of parts.
-use Rattle.std.proofs.Common.{◌≡◌, sym, ap, subst, ℕ, zero, suc, ◌+◌, ◌<◌, ◌≤◌, ◌^◌, max, List, [], ◌∷◌, ◌++◌, drop, length, map, arith}
+use Rattle.std.proofs.Common.{◌≡◌, subst, ℕ, zero, suc, ◌≤◌, max, List, [], ◌∷◌, ◌++◌, drop, length, map, arith}
 use Rattle.std.specs.Prelude.{codes}
 use Rattle.std.specs.List.{AllByRecursion, AllZip}
 use Rattle.iolb_model.specs.Program.{AffineProgram}
@@ -73,15 +73,6 @@ module _ (program : AffineProgram) where
   splits-fit (part ∷ parts) trees deep h =
       let first = from-zip part parts (variables_of_pairs program parts) trees deep.0 deep.1 h in
       (first.0, splits-fit parts (drop (length parts) trees) deep.1 first.1)
-
-  -- at most four parts have few pairs
-  pub pairs-few : (parts : List PartTerm) → length parts ≤ 4 → length (variables_of_pairs program parts) < 2 ^ 32
-  pairs-few [] few = omega arith
-  pairs-few (a ∷ []) few = omega arith
-  pairs-few (a ∷ b ∷ []) few = omega arith
-  pairs-few (a ∷ b ∷ c ∷ []) few = omega arith
-  pairs-few (a ∷ b ∷ c ∷ d ∷ []) few = omega arith
-  pairs-few (a ∷ b ∷ c ∷ d ∷ e ∷ parts) few = absurd (omega (arith, few))
 
 pub splits-in : (program : AffineProgram) (place : List Step) (parts : List PartTerm) (trees : List SplitTree) → AllByRecursion (IsDeep program) parts → length trees ≡ length (variables_of_pairs program parts)
     → AllByRecursion IsSmallSplit trees → AllHold (splits_fit place 0 (variables_of_pairs program parts) trees) → SplitsFit program parts trees

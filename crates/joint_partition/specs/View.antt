@@ -1,5 +1,5 @@
 -- What the parts of the code are.
-use Rattle.std.specs.Prelude.{◌≡◌, ℕ, ◌<◌, ◌≤◌, ◌^◌, ⊤, List, [], ◌∷◌, drop, length, map, option_map}
+use Rattle.std.specs.Prelude.{◌≡◌, ℕ, ◌≤◌, ⊤, List, [], ◌∷◌, drop, length, map, option_map}
 use Rattle.std.specs.List.{AllByRecursion}
 use Rattle.affine_program.specs.Parts.{ProgramParts, meaning}
 use Rattle.domain_count.specs.Claims.{FitsCount}
@@ -102,7 +102,6 @@ SplitsFit program (part ∷ parts) trees = SplitsFrom program part parts trees �
 pub record FitsPoints (program : ProgramParts) (joint : Joint) : Type 0 where
   pub parts : AllByRecursion (FitsPart program (dimensions_of (joint_of joint))) joint.parts.items
   pub splits : SplitsFit (meaning program) (joint_of joint).parts (joint_of joint).distinct
-  pub few_splits : length joint.distinct.items < 2 ^ 32
   pub credits : AllByRecursion (FitsCredit program) joint.credits.items
   pub few : dimensions_of (joint_of joint) ≤ NEST_VARIABLES
   pub light : weight_of (joint_of joint) ≤ WEIGHTS

@@ -163,7 +163,7 @@ fn later_shown(
     requires part { FitsPart program.now (length part.now.image.items) part.now }
     requires others { AllByRecursion (FitsPart program.now (length part.now.image.items)) others.now }
     requires splits { SplitsFrom (meaning program.now) (part_of part.now) (map part_of others.now) (map split_of splits.now) }
-    requires room { index + length splits.now < 2 ^ 32 }
+    requires room { index + length splits.now < 2 ^ 64 }
     ensures { Decides (apart_from (meaning program.now) place.now index (part_of part.now) (map part_of others.now) (map split_of splits.now)) result }
 {
     let Some((other, others)) = others.split_first() else {
@@ -187,7 +187,7 @@ pub(crate) fn distinct_shown(
 ) -> Result<(), Refused>
     requires parts { (dimensions : ℕ) × AllByRecursion (FitsPart program.now dimensions) parts.now }
     requires splits { SplitsFit (meaning program.now) (map part_of parts.now) (map split_of splits.now) }
-    requires room { index + length splits.now < 2 ^ 32 }
+    requires room { index + length splits.now < 2 ^ 64 }
     ensures { Decides (distinct_claims (meaning program.now) place.now index (map part_of parts.now) (map split_of splits.now)) result }
 {
     let Some((part, later)) = parts.split_first() else {
