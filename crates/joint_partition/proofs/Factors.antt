@@ -38,26 +38,26 @@ range-more of i =
 abbrev pub labelings_power : Family → ℕ
 labelings_power family = length family.labels.items ^ family.weight
 
-abbrev pub weights : List Family → ℕ
-weights families = sum_by (λ (f : Family). f.weight) families
+abbrev pub joint_weights : List Family → ℕ
+joint_weights families = sum_by (λ (f : Family). f.weight) families
 
-labelings-within : (families : List Family) → AllByRecursion (λ (f : Family). length f.labels.items ≤ 4) families → product_by labelings_power families ≤ 4 ^ weights families
+labelings-within : (families : List Family) → AllByRecursion (λ (f : Family). length f.labels.items ≤ 4) families → product_by labelings_power families ≤ 4 ^ joint_weights families
 labelings-within [] few = omega arith
 labelings-within (family ∷ families) few =
-    let both : labelings_power family * product_by labelings_power families ≤ 4 ^ family.weight * 4 ^ weights families =
+    let both : labelings_power family * product_by labelings_power families ≤ 4 ^ family.weight * 4 ^ joint_weights families =
     mul-le-mul (pow-le-pow_left few.0 family.weight) (labelings-within families few.1) in
     subst (λ (n : ℕ). labelings_power family * product_by labelings_power families ≤ 4 ^ n) (sym (sum_by-cons (λ (f : Family). f.weight) family families))
-    (subst (λ (n : ℕ). labelings_power family * product_by labelings_power families ≤ n) (sym (pow-add 4 family.weight (weights families))) both)
+    (subst (λ (n : ℕ). labelings_power family * product_by labelings_power families ≤ n) (sym (pow-add 4 family.weight (joint_weights families))) both)
 
-labelings-most : (families : List Family) → weights families ≤ 16 → AllByRecursion (λ (f : Family). length f.labels.items ≤ 4) families → product_by labelings_power families ≤ 4294967296
+labelings-most : (families : List Family) → joint_weights families ≤ 16 → AllByRecursion (λ (f : Family). length f.labels.items ≤ 4) families → product_by labelings_power families ≤ 4294967296
 labelings-most families light few =
-    let rises : 4 ^ weights families ≤ 4 ^ 16 = pow-le-pow_right (omega arith) light in
+    let rises : 4 ^ joint_weights families ≤ 4 ^ 16 = pow-le-pow_right (omega arith) light in
     omega (arith, labelings-within families few, rises)
 
-pub labelings-fit : (families : List Family) (i : ℕ) → weights families ≤ 16 → AllByRecursion (λ (f : Family). length f.labels.items ≤ 4) families
+pub labelings-fit : (families : List Family) (i : ℕ) → joint_weights families ≤ 16 → AllByRecursion (λ (f : Family). length f.labels.items ≤ 4) families
     → product_by labelings_power (take i families) ≤ 4294967296
 labelings-fit families i light few =
-    let less : weights (take i families) ≤ weights families = sum_by-take-le (λ (f : Family). f.weight) families i in
+    let less : joint_weights (take i families) ≤ joint_weights families = sum_by-take-le (λ (f : Family). f.weight) families i in
     labelings-most (take i families) (omega (arith, less, light)) (All-take (λ (f : Family). length f.labels.items ≤ 4) i families few)
 
 -- one family's
@@ -111,7 +111,7 @@ one-more family families (number ∷ numbers) =
     )
 
 -- so the groups have no more weight than all families
-groups-within : (families : List Family) (a n : ℕ) → sum_by (group_weight families) (range_with_len a n) ≤ weights families
+groups-within : (families : List Family) (a n : ℕ) → sum_by (group_weight families) (range_with_len a n) ≤ joint_weights families
 groups-within [] a n = omega (arith, none-weighs (range_with_len a n))
 groups-within (family ∷ families) a n =
     omega (
@@ -125,7 +125,7 @@ groups-within (family ∷ families) a n =
 pub own-most : (n : ℕ) → n ≤ 16 → n ^ n ≤ 18446744073709551616
 own-most n h = let risen : n ^ n ≤ 16 ^ 16 = own-rises n 16 (omega arith) h in omega (arith, risen)
 
-pub powers-fit : (families : List Family) (i : ℕ) → weights families ≤ 16 → product_by (own_weight families) (range_with_len 0 i) ≤ 18446744073709551616
+pub powers-fit : (families : List Family) (i : ℕ) → joint_weights families ≤ 16 → product_by (own_weight families) (range_with_len 0 i) ≤ 18446744073709551616
 powers-fit families i light =
     let total : ℕ = sum_by (group_weight families) (range_with_len 0 i) in
     let few : total ≤ 16 = omega (arith, groups-within families 0 i, light) in
@@ -136,11 +136,11 @@ kept true n = omega arith
 kept false n = omega arith
 
 -- a group has no more weight than all families, and what some of its families have beside a next family's weight neither
-pub group-light : (families : List Family) (number : ℕ) → group_weight families number ≤ weights families
+pub group-light : (families : List Family) (number : ℕ) → group_weight families number ≤ joint_weights families
 group-light families number = sum_by-le-sum_by (weight_where number) (λ (f : Family). f.weight) families (λ f. kept (f.group == number) f.weight)
 
 pub next-light : (families : List Family) (number i : ℕ) (family : Family) → i < length families → family ≡ get_or families i family
-    → sum_by (weight_where number) (take i families) + family.weight ≤ weights families
+    → sum_by (weight_where number) (take i families) + family.weight ≤ joint_weights families
 next-light families number i family below is =
     omega (arith, sum_by_more_le_part (weight_where number) (λ (f : Family). f.weight) families i family below (λ f. kept (f.group == number) f.weight), ap (λ (f : Family). f.weight) is)
 
@@ -158,7 +158,7 @@ range-next families i product weight power so e f =
 
 -- ---- both factors
 
-pub both-fit : (families : List Family) (labelings groups : ℕ) → weights families ≤ 16 → AllByRecursion (λ (f : Family). length f.labels.items ≤ 4) families
+pub both-fit : (families : List Family) (labelings groups : ℕ) → joint_weights families ≤ 16 → AllByRecursion (λ (f : Family). length f.labels.items ≤ 4) families
     → labelings ≡ product_by labelings_power families → groups ≡ product_by (own_weight families) (range_with_len 0 6) → labelings * groups ≤ 79228162514264337593543950336
 both-fit families labelings groups light few e f =
     let one : labelings ≤ 4294967296 = omega (arith, e, labelings-most families light few) in

@@ -19,7 +19,7 @@ use Rattle.joint_partition.specs.JointNumbers.{FitsNumbers, group_weight}
 use Rattle.joint_partition.specs.JointWords.{group_numbers}
 use Rattle.joint_partition.specs.Term.{JointFamily}
 use Rattle.joint_partition.specs.View.{family_of, joint_of, labeling_of}
-use Rattle.joint_partition.proofs.Factors.{labelings_power, own_weight, weight_where, weights}
+use Rattle.joint_partition.proofs.Factors.{labelings_power, own_weight, weight_where, joint_weights}
 
 -- ---- a product over some numbers below a limit, where the others give 1
 
@@ -163,10 +163,10 @@ module _ (joint : Joint) (fits : FitsNumbers (joint_of joint)) where
       (product_by (λ (number : ℕ). weight_in (joint_of joint) number ^ weight_in (joint_of joint) number) (group_numbers (joint_of joint)))
       labelings-are weights-are
 
-  pub weight-is : weights families ≡ weight_of (joint_of joint)
+  pub weight-is : joint_weights families ≡ weight_of (joint_of joint)
   weight-is = sym (summed (λ (f : JointFamily). f.weight) family_of families)
 
-  pub is-light : weights families ≤ 16
+  pub is-light : joint_weights families ≤ 16
   is-light = omega (arith, weight-is, fits.light)
 
   pub are-few : AllByRecursion (λ (f : Family). length f.labels.items ≤ 4) families
