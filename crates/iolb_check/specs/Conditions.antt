@@ -32,9 +32,9 @@ use Rattle.iolb_check.specs.declared.bound.Value.TheVariants as values
 
 -- ---- claims
 
--- what a term at a place claims: a cold term over the source tree of its read (conditions 2, and 8 to 12), a partition term
--- over all source trees (conditions 2, 8 to 10, and 13 to 18), and so a wavefront term (conditions 2, 8 to 10, 12, and 19 to 22)
--- and a joint term (conditions 2, 8 to 10, 12, 14, 15, 17, 18 and 25)
+-- What a term at a place claims. A cold term claims it over the source tree of its read (conditions 2, and 8 to 12), each other term
+-- over all source trees: a partition term (2, 8 to 10, and 13 to 18), a wavefront term (2, 8 to 10, 12, and 19 to 22), and a joint
+-- term (2, 8 to 10, 12, 14, 15, 17, 18, and 25).
 abbrev pub term_claims : AffineProgram → List (List SelectionTree) → List Step → TermClaim → List Claim
 term_claims program trees place (cold claim sums) =
     cold_claims program (place ++ Key (codes "cold") ∷ []) (tree_for trees (cold_term claim sums).reader) (cold_term claim sums)
