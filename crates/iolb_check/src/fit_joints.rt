@@ -2,27 +2,24 @@
 #![tactic(auto, using(claims::proofs::Found::in_a_row))]
 
 ghost use Rattle.claims.specs.Claims.{Decides, numbered};
-ghost use Rattle.std.specs.Prelude.{◌≡◌, ◌+◌, ◌++◌, ◌∷◌, [], length, map, codes};
+ghost use Rattle.std.specs.Prelude.{◌≡◌, ◌+◌, length, map};
 ghost use Rattle.affine_program.specs.Domain.{depth_of};
 ghost use Rattle.affine_program.specs.Parts.{meaning};
-ghost use Rattle.claims.specs.declared.place.Step.TheVariants.{Key};
 ghost use Rattle.dep_quast.specs.Quasts.{trees_of};
 ghost use Rattle.iolb_check.specs.JointFit.{apart_front_fit, inverse_fit, joint_fit, map_fit, nest_of_part, part_at, part_fit};
-ghost use Rattle.iolb_check.specs.PartitionFit.{credit_at};
 ghost use Rattle.certificate_fit.specs.FamilyFit.{credit_count_fit, credit_nest_fit};
-ghost use Rattle.joint_partition.specs.JointWords.{dimensions_of};
 ghost use Rattle.joint_partition.specs.View.{joint_of, part_of};
 
 use crate::fit_colds::{columns_called, matrix_misfit};
+use crate::fit_credits::credited_fits;
 use crate::fit_joint_walks::all_joint_families_fit;
 use crate::fit_splits::all_distinct_fit;
 use crate::joint_targets::has_group_pairs;
 use affine_program::Program;
 use certificate_fit::counts::{domain_size, loops_around};
-use certificate_fit::credits::all_credits_fit;
 use certificate_fit::lists::{all_bounds_fit, all_forms_fit, all_polynomials_fit, misfit};
 use claims::{ObjectKey, Place, Refused, Step};
-use joint_partition::{Joint, Part};
+use joint_partition::{Joint, Part, dimensions_of};
 use reuse_paths::Quasts;
 use std::alloc::Global;
 
@@ -143,29 +140,6 @@ fn all_parts_fit(
 
 // ---- terms
 
-/// How many forms the maps have: as many as that of the first part.
-fn dimensions_of(term: &Joint) -> usize
-    ensures { result ≡ dimensions_of (joint_of term.now) }
-{
-    match term.parts.as_slice().first() {
-        Some(part) => part.image.as_slice().len(),
-        None => 0,
-    }
-}
-
-/// Whether what is said fits of a term's credits.
-fn credited_fits(
-    alloc: Global,
-    program: &Program,
-    place: &Place,
-    term: &Joint,
-) -> Result<(), Refused>
-    ensures { Decides (numbered (credit_at (meaning program.now) (place.now ++ Key (codes "credits") ∷ [])) 0 (joint_of term.now).credits) result }
-{
-    let list = place.within(alloc, Step::Key(ObjectKey("credits")))?;
-    all_credits_fit(alloc, program, &list, term.credits.as_slice())
-}
-
 /// Whether what is said fits of what shows the groups and the images apart, and of the credits.
 fn apart_front_fits(
     alloc: Global,
@@ -179,7 +153,7 @@ fn apart_front_fits(
     if !has_group_pairs(alloc, program, quasts, term)? {
         return Err(misfit(alloc, place, Step::Key(ObjectKey("apart"))));
     }
-    credited_fits(alloc, program, place, term)?;
+    credited_fits(alloc, program, place, term.credits.as_slice())?;
     all_distinct_fit(alloc, program, place, term)?;
     Ok(())
 }

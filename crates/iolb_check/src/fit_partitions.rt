@@ -2,19 +2,18 @@
 #![tactic(auto, using(claims::proofs::Found::in_a_row))]
 
 ghost use Rattle.claims.specs.Claims.{Decides};
-ghost use Rattle.std.specs.Prelude.{◌≡◌, ◌≤◌, ◌↔◌, ◌++◌, ◌∷◌, [], map, length, IsTrue, IfOk};
+ghost use Rattle.std.specs.Prelude.{◌≡◌, ◌↔◌, length, IsTrue, IfOk};
 ghost use Rattle.affine_program.specs.Parts.{meaning};
-ghost use Rattle.claims.specs.declared.place.Step.TheVariants.{Key};
-ghost use Rattle.iolb_check.specs.PartitionFit.{apart_count, apart_fit, coordinates_fit, credits_fit, nest_fit, number_fit, partition_fit, points_fit, walked_fit, walks_fit};
+ghost use Rattle.iolb_check.specs.PartitionFit.{apart_count, apart_fit, coordinates_fit, nest_fit, number_fit, partition_fit, points_fit, walked_fit, walks_fit};
 ghost use Rattle.k_partition.specs.View.{partition_of};
 ghost use Rattle.dep_quast.specs.Quasts.{trees_of};
 
 use crate::family_targets::targets_of_families;
 use crate::fit_colds::columns_called;
+use crate::fit_credits::credited_fits;
 use affine_form::Memory;
 use affine_program::Program;
 use certificate_fit::counts::{domain_size, loops_around};
-use certificate_fit::credits::all_credits_fit;
 use certificate_fit::families::all_families_fit;
 use certificate_fit::lists::{all_bounds_fit, all_polynomials_fit, misfit};
 use claims::{ObjectKey, Place, Refused, Step};
@@ -58,19 +57,6 @@ fn all_apart_fit(
     Err(misfit(alloc, place, Step::Key(ObjectKey("apart"))))
 }
 
-/// Whether what is said fits of the credits.
-fn credited_fits(
-    alloc: Global,
-    program: &Program,
-    place: &Place,
-    term: &Partition,
-) -> Result<(), Refused>
-    ensures { Decides (credits_fit (meaning program.now) place.now (partition_of term.now)) result }
-{
-    let list = place.within(alloc, Step::Key(ObjectKey("credits")))?;
-    all_credits_fit(alloc, program, &list, term.credits.as_slice())
-}
-
 /// Whether what is said fits of the families.
 fn walked_fits(
     alloc: Global,
@@ -106,7 +92,7 @@ fn all_walks_fit(
     ensures { Decides (walks_fit (meaning program.now) (trees_of quasts.now) place.now (partition_of term.now)) result }
 {
     all_apart_fit(alloc, program, quasts, place, term)?;
-    credited_fits(alloc, program, place, term)?;
+    credited_fits(alloc, program, place, term.credits.as_slice())?;
     walked_fits(alloc, program, quasts, place, term)?;
     Ok(())
 }

@@ -9,6 +9,7 @@ pub mod evaluation;
 mod family_targets;
 mod fit_branches;
 mod fit_colds;
+mod fit_credits;
 mod fit_fronts;
 mod fit_joint_walks;
 mod fit_joints;

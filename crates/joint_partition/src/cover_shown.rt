@@ -12,21 +12,12 @@ ghost use Rattle.joint_partition.specs.View.{family_of, joint_of};
 ghost use Rattle.joint_partition.specs.declared.term.JointFamily.{JointFamily as family};
 ghost use Rattle.iolb_model.specs.declared.limits.TheConstants.{NEST_VARIABLES, WEIGHTS};
 
+use crate::dimensions::dimensions_of;
 use crate::places::member_at;
 use crate::term::{Joint, JointFamily};
 use affine_form::Memory;
 use claims::{ObjectKey, Place, Refused, refusal};
 use std::alloc::Global;
-
-/// How many coordinates an image has.
-fn dimensions(term: &Joint) -> usize
-    ensures { result ≡ dimensions_of (joint_of term.now) }
-{
-    match term.parts.as_slice().first() {
-        Some(part) => part.image.as_slice().len(),
-        None => 0,
-    }
-}
 
 /// Whether each coordinate lies in sets of a total weight of at least `q`.
 pub(crate) fn cover_shown(alloc: Global, term: &Joint, place: &Place) -> Result<(), Refused>
@@ -35,7 +26,7 @@ pub(crate) fn cover_shown(alloc: Global, term: &Joint, place: &Place) -> Result<
     ensures { Decides (cover_claims place.now (joint_of term.now)) result }
 {
     let families = term.families.as_slice();
-    let size = dimensions(term);
+    let size = dimensions_of(term);
     for i in 0..size {
         if weight_at(families, i as u8) < term.q {
             let coordinate = coordinate_place(alloc, place, i)?;

@@ -6,6 +6,7 @@ mod checker;
 mod claims_checker;
 pub mod counts;
 mod cover_shown;
+mod dimensions;
 mod distinct_shown;
 mod families_shown;
 mod groups_apart;
@@ -29,5 +30,6 @@ mod way_walks;
 mod ways_shown;
 
 pub use checker::check_joint;
+pub use dimensions::dimensions_of;
 pub use pieces::joint_pieces;
 pub use term::{Joint, JointFamily, Labeling, Part, Split, Start, Way};

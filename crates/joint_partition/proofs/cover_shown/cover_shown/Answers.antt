@@ -15,7 +15,7 @@ returns-then-weight_at-term c =
     let term = joint_of c.args.term.now in
     let place = c.args.place.now in
     let i : ℕ = c.loop-i.i in
-    let below : i < dimensions_of term = omega (arith, c.loop-i-test.true, c.dimensions-size.ensures) in
+    let below : i < dimensions_of term = omega (arith, c.loop-i-test.true, c.dimensions_of-size.ensures) in
     let is : c.weight_at.result ≡ weight_at term.families i = search rules in
     counts-refused (cover_claim place term) (dimensions_of term) i c.refusal.result below c.loop-i.invariant
     (refused-here (record { condition = 17; place = place ++ Key (codes "parts") ∷ Index 0 ∷ Key (codes "map") ∷ Index i ∷ []; statement = term.q ≤ weight_at term.families i }) [] c.refusal.result
@@ -25,4 +25,4 @@ returns-then-weight_at-term c =
 pub returns : goal.returns
 returns c =
     let term = joint_of c.args.term.now in
-    counts-hold (cover_claim c.args.place.now term) (dimensions_of term) (λ k less. c.loop-i.invariant k (omega (arith, less, c.loop-i-test.false, c.dimensions-size.ensures)))
+    counts-hold (cover_claim c.args.place.now term) (dimensions_of term) (λ k less. c.loop-i.invariant k (omega (arith, less, c.loop-i-test.false, c.dimensions_of-size.ensures)))
