@@ -8,6 +8,7 @@ pub mod PairFit
 pub mod FrontFit
 pub mod PartitionFit
 pub mod JointFit
+pub mod JointWalks
 pub mod TermFit
 pub mod Fit
 pub mod Sound

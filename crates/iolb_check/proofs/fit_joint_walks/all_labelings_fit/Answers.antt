@@ -5,7 +5,7 @@ use Rattle.affine_program.specs.Parts.{meaning}
 use Rattle.joint_partition.specs.View.{labeling_of}
 use Rattle.iolb_check.specs.JointFit.{labeling_at}
 use Rattle.certificate_fit.proofs.FitFound.{mapped-stop, mapped-next, mapped-ended}
-use Rattle.iolb_check.proofs.fit_joint_walks.all_labelings_fit.Goals as goal
+use Rattle.iolb_check.proofs.fit_labelings.all_labelings_fit.Goals as goal
 
 pub returns-in_err-labeling_fits : goal.returns-in_err-labeling_fits
 returns-in_err-labeling_fits c =

@@ -7,7 +7,7 @@ use Rattle.reuse_paths.specs.WalkViews.{walk_of}
 use Rattle.reuse_paths.specs.Walks.{boxed_region}
 use Rattle.iolb_check.specs.JointFit.{labeled_fit}
 use Rattle.certificate_fit.proofs.FitFound.{mapped-stop, mapped-next, mapped-ended}
-use Rattle.iolb_check.proofs.fit_joint_walks.all_regions_fit.Goals as goal
+use Rattle.iolb_check.proofs.fit_ways.all_regions_fit.Goals as goal
 
 pub returns-in_err-labeled_fits : goal.returns-in_err-labeled_fits
 returns-in_err-labeled_fits c =

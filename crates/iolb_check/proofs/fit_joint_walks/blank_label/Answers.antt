@@ -3,7 +3,7 @@ use Rattle.std.proofs.Math.IntN.{ℤ}
 use Rattle.std.proofs.lemmas.List.{drop_more}
 use Rattle.iolb_model.specs.Form.{AffineForm}
 use Rattle.joint_partition.specs.Term.{no_form}
-use Rattle.iolb_check.proofs.fit_joint_walks.blank_label.Goals as goal
+use Rattle.iolb_check.proofs.family_walks.blank_label.Goals as goal
 
 pub loop-member-preserved : goal.loop-member-preserved
 loop-member-preserved c =
