@@ -12,5 +12,4 @@ pub mod ReadPolynomials
 pub mod ReadReaches
 pub mod ReadRecords
 pub mod ReadTrees
-pub mod Related
 pub mod OnePolynomial

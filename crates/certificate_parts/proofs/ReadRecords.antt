@@ -1,17 +1,16 @@
 -- Records that are written, read.
-use Rattle.std.proofs.Common.{◌≡◌, List, [], ◌∷◌, length, map, true, None, Some, refl, Vec, Global, arith}
+use Rattle.std.proofs.Common.{◌≡◌, List, [], ◌∷◌, map, true, None, Some, refl, Vec, Global, arith}
 use Rattle.std.specs.Prelude.{Box, Option, IfSome, option_map}
 use Rattle.std.specs.List.{AllByRecursion}
-use Rattle.std.proofs.lemmas.Bool.{le-leb, ne_eqb}
+use Rattle.std.proofs.lemmas.Bool.{le-leb}
 use Rattle.iolb_model.specs.Form.{AffineForm}
 use Rattle.iolb_model.specs.declared.limits.TheConstants.{FAMILIES, WEIGHTS}
-use Rattle.certificate_fit.specs.Limits.{AreSmall, IsSmallFamily, IsSmallLabel, IsSmallFamilyNode}
-use Rattle.reuse_paths.specs.declared.family.Family.{Family}
+use Rattle.certificate_fit.specs.Limits.{AreSmall, IsSmallLabel, IsSmallFamilyNode}
 use Rattle.reuse_paths.specs.declared.family.FamilyNode.{FamilyNode}
-use Rattle.reuse_paths.specs.Families.{FamilyForms, boxed_forms, boxed_node, family_of}
+use Rattle.reuse_paths.specs.Families.{FamilyForms, boxed_forms, boxed_node}
 use Rattle.json_parts.specs.Fields.{object_shape}
 use Rattle.json_parts.specs.Shape.{IsReadBack}
-use Rattle.json_parts.proofs.Back.{few_read}
+use Rattle.json_parts.proofs.Back.{one_to_most_read}
 use Rattle.certificate_parts.specs.Credits.{WrittenCredit, credit_fields, credit_parts, credit_shape}
 use Rattle.certificate_parts.specs.Families.{node_shape, IsSmallForms, family_fields, family_parts, family_shape, families_shape, weights_of, AreSmallFamilies}
 
@@ -27,8 +26,7 @@ pub families_read : (families : List FamilyForms) → AreSmallFamilies families 
 unfolding families_shape
 families_read families small h =
     rw (
-      few_read FAMILIES family_shape.reads family_shape.data_of families small.few h,
-      ne_eqb (length families) 0 (λ none. omega (arith, none, small.some)),
+      one_to_most_read FAMILIES family_shape families small.few (λ none. omega (arith, none, small.some)) h,
       le-leb (weights_of families) WEIGHTS small.light,
     ) refl
 
@@ -46,7 +44,3 @@ unfolding node_shape
 family_nodes_fit [] h = tt
 family_nodes_fit (None ∷ nodes) h = (tt, family_nodes_fit nodes h.1)
 family_nodes_fit (Some node ∷ nodes) h = ((record { label = h.0.0; region = h.0.1 }, refl), family_nodes_fit nodes h.1)
-
-pub all_fit : (families : List Family) → AllByRecursion IsSmallFamily (map family_of families) → AllByRecursion (λ (family : Family). IsSmallFamily (family_of family)) families
-all_fit [] h = tt
-all_fit (family ∷ families) h = (h.0, all_fit families h.1)

@@ -1,6 +1,5 @@
 -- The texts of families of walks.
-use Rattle.std.specs.Prelude.{◌≡◌, ℕ, ◌≤◌, ◌==◌, List, [], ◌∷◌, length, sum_by, Bool, true, not, nat_le, ◌&&◌, codes, Option, None, Some, IfOk, IfSome}
-use Rattle.std.proofs.Common.{arith}
+use Rattle.std.specs.Prelude.{◌≡◌, ℕ, ◌≤◌, List, [], ◌∷◌, length, sum_by, Bool, true, nat_le, codes, Option, None, Some, IfSome}
 use Rattle.std.proofs.lemmas.Bool.{leb-true}
 use Rattle.std.specs.List.{AllByRecursion}
 use Rattle.iolb_model.specs.Form.{AffineForm}
@@ -10,9 +9,8 @@ use Rattle.reuse_paths.specs.Families.{NodeForms, FamilyForms}
 use Rattle.reuse_paths.specs.Walks.{WalkTree, WalkRegion}
 use Rattle.serde_json.specs.Data.{Data}
 use Rattle.json_parts.specs.Fields.{Fields, no_fields, field, object_shape}
-use Rattle.json_parts.specs.Outcome.{Outcome}
-use Rattle.json_parts.specs.Shape.{Shape, natural_shape, list_shape, few_shape, or_null_shape, made_shape, tested_shape}
-use Rattle.json_parts.specs.Truths.{first_true, second_true}
+use Rattle.json_parts.specs.OneToMost.{one_to_most_shape}
+use Rattle.json_parts.specs.Shape.{Shape, natural_shape, list_shape, or_null_shape, made_shape, tested_shape}
 use Rattle.certificate_parts.specs.Forms.{forms_shape}
 use Rattle.certificate_parts.specs.Reaches.{region_shape}
 use Rattle.certificate_parts.specs.Walks.{walk_shape}
@@ -106,8 +104,8 @@ family_shape = made_shape (object_shape family_fields) family_made family_parts 
 abbrev pub weights_of : List FamilyForms → ℕ
 weights_of families = sum_by (λ (family : FamilyForms). family.weight) families
 
-abbrev pub are_few_families : List FamilyForms → Bool
-are_few_families families = not (length families == 0) && nat_le (weights_of families) WEIGHTS
+abbrev pub are_light : List FamilyForms → Bool
+are_light families = nat_le (weights_of families) WEIGHTS
 
 pub record AreSmallFamilies (families : List FamilyForms) : Type 0 where
   pub all : AllByRecursion IsSmallFamily families
@@ -115,21 +113,12 @@ pub record AreSmallFamilies (families : List FamilyForms) : Type 0 where
   pub few : length families ≤ FAMILIES
   pub light : weights_of families ≤ WEIGHTS
 
-some_families : (families : List FamilyForms) → not (length families == 0) ≡ true → 1 ≤ length families
-some_families [] is = absurd cc
-some_families (family ∷ families) is = omega arith
-
-pub families-kept : (families : List FamilyForms) → (few_shape FAMILIES family_shape).IsWithin families → are_few_families families ≡ true → AreSmallFamilies families
+pub families-kept : (families : List FamilyForms) → (one_to_most_shape FAMILIES family_shape).IsWithin families → are_light families ≡ true → AreSmallFamilies families
 unfolding family_shape
-families-kept families small is = record {
-  all = small.0;
-  some = some_families families (first_true (not (length families == 0)) (nat_le (weights_of families) WEIGHTS) is);
-  few = small.1;
-  light = leb-true (weights_of families) WEIGHTS (second_true (not (length families == 0)) (nat_le (weights_of families) WEIGHTS) is);
-}
+families-kept families small is = record { all = small.all; some = small.some; few = small.few; light = leb-true (weights_of families) WEIGHTS is }
 
 unfoldable pub families_shape : Shape (List FamilyForms)
-families_shape = tested_shape (few_shape FAMILIES family_shape) are_few_families AreSmallFamilies families-kept
+families_shape = tested_shape (one_to_most_shape FAMILIES family_shape) are_light AreSmallFamilies families-kept
 
 abbrev pub family_data : FamilyForms → Data
 family_data = family_shape.data_of

@@ -19,7 +19,7 @@ use affine_form::{Form, Memory};
 use cover_lp::CoordSet;
 use iolb_model::limits;
 use json_parts::{
-    Any8, Boxed, CertError, End, Few, ListOf, Number8, Number32, OrNull, Part, Puts, fault,
+    Any8, Boxed, CertError, End, ListOf, Number8, Number32, OneToMost, OrNull, Part, Puts, fault,
     put_list, put_part, read_object, write_list, write_object,
 };
 use json_values::Json;
@@ -224,8 +224,8 @@ impl Part for OfFamilies {
 
     #[tactic(auto, unfolding(crate::specs::Families::families_shape))]
     fn read(alloc: Global, value: &Json) -> Result<Vec<Family>, CertError> {
-        let families = <Few<OfFamily, 6> as Part>::read(alloc, value)?;
-        if !families.is_empty() && weight_of(families.as_slice()) <= limits::WEIGHTS {
+        let families = <OneToMost<OfFamily, 6> as Part>::read(alloc, value)?;
+        if weight_of(families.as_slice()) <= limits::WEIGHTS {
             Ok(families)
         } else {
             Err(fault(alloc, 3))

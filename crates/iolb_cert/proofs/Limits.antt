@@ -29,7 +29,7 @@ use Rattle.joint_text.specs.Joint.{IsCreditTerm}
 use Rattle.joint_text.proofs.Limits.{read_credit_small, read_joint_small}
 use Rattle.certificate_parts.specs.Inverses.{inverse_shape}
 use Rattle.iolb_cert.specs.Terms.{term_shape, branch_shape}
-use Rattle.certificate_parts.proofs.Related.{all_related, as_many}
+use Rattle.json_parts.proofs.Related.{all_related, as_many}
 
 read_cold_small : (said : WrittenCold) (cold : Cold) → IsCold said (claim_of_cold cold) cold.sums.sums → cold_shape.IsWithin said → IsSmallCold cold
 unfolding cold_shape inverse_shape

@@ -17,7 +17,7 @@ use Rattle.json_parts.specs.Outcome.{Outcome}
 use Rattle.certificate_parts.specs.Credits.{WrittenCredit}
 use Rattle.certificate_parts.specs.Polynomials.{IsPolynomial, ArePolynomials}
 use Rattle.certificate_parts.proofs.OnePolynomial.{one-polynomial}
-use Rattle.certificate_parts.proofs.Related.{all-one}
+use Rattle.json_parts.proofs.Related.{all-one}
 use Rattle.iolb_cert.specs.Certificates.{reads_certificate}
 use Rattle.iolb_cert.specs.OneCertificate.{HasCertificate, TextsHaveOneCertificate, TextsHaveOneAnswer}
 use Rattle.iolb_cert.specs.Texts.{IsTextOf, IsTextFault}

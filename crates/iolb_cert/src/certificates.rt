@@ -16,7 +16,7 @@ use affine_form::Memory;
 use certificate_parts::OfTree;
 use iolb_check::Certificate;
 use json_parts::{
-    CertError, End, Exactly, Few, ListOf, Part, Put, PutFew, read_object, write_list, write_object,
+    CertError, End, Exactly, Few, ListOf, Part, PutFew, put, read_object, write_list, write_object,
 };
 use json_values::Json;
 use reuse_paths::Quasts;

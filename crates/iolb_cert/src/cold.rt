@@ -8,11 +8,10 @@ ghost use Rattle.iolb_cert.specs.Written.{cold_link};
 use affine_form::Memory;
 use certificate_parts::{OfForm, OfInverse, OfLeaf, OfMultipliers, OfNest, OfPolynomial};
 use domain_count::Sums;
-use json_parts::{Any16, CertError, End, ListOf, Part, Put, PutList, read_object, write_object};
+use json_parts::{Any16, CertError, End, ListOf, Part, put, put_list, read_object, write_object};
 use json_values::Json;
 use serde_json::Value;
 use std::alloc::Global;
-use std::marker::PhantomData;
 use wavefront::Cold;
 
 /// A cold term.

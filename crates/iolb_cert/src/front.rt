@@ -9,12 +9,11 @@ use affine_form::Memory;
 use certificate_parts::{OfInverse, OfLeaf, OfMultipliers, OfNest, OfPolynomial, OfReach, OfSpot};
 use domain_count::Sums;
 use json_parts::{
-    Any8, Any16, CertError, End, ListOf, OrNull, Part, Put, PutList, read_object, write_object,
+    Any8, Any16, CertError, End, ListOf, OrNull, Part, put, put_list, read_object, write_object,
 };
 use json_values::Json;
 use serde_json::Value;
 use std::alloc::Global;
-use std::marker::PhantomData;
 use wavefront::Wavefront;
 
 /// A wavefront term.

@@ -1,28 +1,6 @@
 //! The texts of certificates and of the bounds that they give.
 #![tactic(auto)]
 
-/// A part that is to be written as a member, and those behind it.
-macro_rules! put {
-    ($of:ty, $value:expr, $rest:expr) => {
-        Put {
-            value: $value,
-            rest: $rest,
-            of: PhantomData::<$of>,
-        }
-    };
-}
-
-/// A list of such parts.
-macro_rules! put_list {
-    ($of:ty, $values:expr, $rest:expr) => {
-        PutList {
-            values: $values,
-            rest: $rest,
-            of: PhantomData::<$of>,
-        }
-    };
-}
-
 mod bound_lines;
 mod certificates;
 mod cold;

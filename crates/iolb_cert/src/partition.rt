@@ -12,14 +12,13 @@ use certificate_parts::{OfCredit, OfFamilies, OfMatrix, OfMultipliers, OfNest, O
 use claims::{ObjectKey, Step};
 use domain_count::Sums;
 use json_parts::{
-    Any16, CertError, End, Few, ListOf, Number8, Number32, Part, Put, PutList, fault, read_object,
+    Any16, CertError, End, Few, ListOf, Number8, Number32, Part, fault, put, put_list, read_object,
     under, write_object,
 };
 use json_values::Json;
 use k_partition::{Partition, Shape};
 use serde_json::Value;
 use std::alloc::Global;
-use std::marker::PhantomData;
 
 /// A shape, by its name.
 struct OfShape {}

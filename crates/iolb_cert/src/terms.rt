@@ -13,12 +13,11 @@ use certificate_parts::OfMultipliers;
 use iolb_check::{Branch, Term};
 use joint_text::OfJoint;
 use json_parts::{
-    CertError, End, Few, ListOf, Part, Put, fault, has_keys, read_object, write_object,
+    CertError, End, Few, ListOf, Part, fault, has_keys, put, read_object, write_object,
 };
 use json_values::Json;
 use serde_json::Value;
 use std::alloc::Global;
-use std::marker::PhantomData;
 
 /// A term, told by its key.
 pub(crate) struct OfTerm {}

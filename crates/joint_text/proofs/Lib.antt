@@ -1,4 +1,3 @@
 pub mod ReadBack
-pub mod SomeOf
 pub mod Limits
 pub mod Plain

@@ -11,7 +11,7 @@ use Rattle.certificate_parts.specs.Credits.{IsSmallWrittenCredit, WrittenCredit,
 use Rattle.certificate_parts.specs.Inverses.{inverse_shape}
 use Rattle.certificate_parts.specs.Nests.{IsSmallNest}
 use Rattle.certificate_parts.specs.Polynomials.{all_read_small}
-use Rattle.certificate_parts.proofs.Related.{all_related, as_many}
+use Rattle.json_parts.proofs.Related.{all_related, as_many}
 use Rattle.reuse_paths.specs.Families.{CreditedNest}
 use Rattle.joint_partition.specs.declared.term.Joint.{Joint}
 use Rattle.joint_partition.specs.declared.term.Part.{Part}
@@ -21,7 +21,7 @@ use Rattle.joint_partition.specs.Term.{JointFamily, PartTerm}
 use Rattle.joint_partition.specs.View.{family_of, joint_of, part_of, split_of}
 use Rattle.joint_text.specs.Families.{AreSmallFamilies, families_shape}
 use Rattle.joint_text.specs.Joint.{IsCreditTerm, IsJoint, WrittenJoint, joint_shape, members_shape}
-use Rattle.joint_text.specs.OneTo.{AreSome}
+use Rattle.json_parts.specs.OneToMost.{AreOneToMost}
 use Rattle.joint_text.specs.Parts.{IsPart, WrittenPart, part_fields, part_members, part_shape}
 
 -- the members of a part with these polynomials

@@ -16,7 +16,7 @@ use Rattle.certificate_parts.specs.Walks.{walk_shape}
 use Rattle.joint_partition.specs.declared.limits.TheConstants.{JOINT_WEIGHTS, LABELINGS, WAYS}
 use Rattle.joint_partition.specs.Limits.{IsSmallJointFamily, IsSmallLabeling, IsSmallStart, IsSmallWay}
 use Rattle.joint_partition.specs.Term.{JointFamily, LabelForms, StartTerm, WayTerm}
-use Rattle.joint_text.specs.OneTo.{AreSome, one_to_shape}
+use Rattle.json_parts.specs.OneToMost.{AreOneToMost, one_to_most_shape}
 
 -- ---- labelings: for each array and each statement a label or null
 
@@ -63,27 +63,27 @@ start_shape = made_shape (object_shape start_fields) start_made (λ start. (star
 
 -- ---- a family: one of 6 groups, 1 to 4 labelings, a scale from 1 to 2^20, 1 to 8 ways, and a weight from 1 to 12
 
-abbrev pub FamilyMembers : Type 0
-FamilyMembers = ℕ × (List LabelForms × (ℕ × (List ℕ × (List StartTerm × (List WayTerm × (ℕ × Unit {0}))))))
+abbrev pub JointFamilyMembers : Type 0
+JointFamilyMembers = ℕ × (List LabelForms × (ℕ × (List ℕ × (List StartTerm × (List WayTerm × (ℕ × Unit {0}))))))
 
-abbrev pub family_fields : Fields FamilyMembers
-family_fields =
+abbrev pub joint_family_fields : Fields JointFamilyMembers
+joint_family_fields =
     field (codes "group") (natural_shape 0 5)
-    (field (codes "labels") (one_to_shape LABELINGS labeling_shape)
+    (field (codes "labels") (one_to_most_shape LABELINGS labeling_shape)
     (field (codes "scale") (natural_shape 1 GREATEST_SCALE)
     (field (codes "set") (list_shape (natural_shape 0 255))
     (field (codes "starts") (list_shape start_shape)
-    (field (codes "ways") (one_to_shape WAYS way_shape)
+    (field (codes "ways") (one_to_most_shape WAYS way_shape)
     (field (codes "weight") (natural_shape 1 GREATEST_WEIGHT)
     no_fields))))))
 
-abbrev pub family_made : FamilyMembers → JointFamily
+abbrev pub family_made : JointFamilyMembers → JointFamily
 family_made b = record { group = b.0; scale = b.1.1.0; set = b.1.1.1.0; weight = b.1.1.1.1.1.1.0; labels = b.1.0; ways = b.1.1.1.1.1.0; starts = b.1.1.1.1.0 }
 
-abbrev pub family_parts : JointFamily → FamilyMembers
+abbrev pub family_parts : JointFamily → JointFamilyMembers
 family_parts family = (family.group, (family.labels, (family.scale, (family.set, (family.starts, (family.ways, (family.weight, tt)))))))
 
-pub family-kept : (b : FamilyMembers) → (object_shape family_fields).IsWithin b → IsSmallJointFamily (family_made b)
+pub family-kept : (b : JointFamilyMembers) → (object_shape joint_family_fields).IsWithin b → IsSmallJointFamily (family_made b)
 unfolding labeling_shape way_shape start_shape
 family-kept b small = record {
   group = omega (arith, small.0.1);
@@ -101,7 +101,7 @@ family-kept b small = record {
 }
 
 unfoldable pub family_shape : Shape JointFamily
-family_shape = made_shape (object_shape family_fields) family_made family_parts IsSmallJointFamily family-kept
+family_shape = made_shape (object_shape joint_family_fields) family_made family_parts IsSmallJointFamily family-kept
 
 -- ---- one to six families, their weights 16 together at most
 
@@ -113,12 +113,12 @@ abbrev pub are_light : List JointFamily → Bool
 are_light families = nat_le (weights_of families) JOINT_WEIGHTS
 
 pub record AreSmallFamilies (families : List JointFamily) : Type 0 where
-  pub some : AreSome FAMILIES IsSmallJointFamily families
+  pub some : AreOneToMost FAMILIES IsSmallJointFamily families
   pub light : weights_of families ≤ JOINT_WEIGHTS
 
-pub families-kept : (families : List JointFamily) → (one_to_shape FAMILIES family_shape).IsWithin families → are_light families ≡ true → AreSmallFamilies families
+pub families-kept : (families : List JointFamily) → (one_to_most_shape FAMILIES family_shape).IsWithin families → are_light families ≡ true → AreSmallFamilies families
 unfolding family_shape
 families-kept families small is = record { some = small; light = leb-true (weights_of families) JOINT_WEIGHTS is }
 
 unfoldable pub families_shape : Shape (List JointFamily)
-families_shape = tested_shape (one_to_shape FAMILIES family_shape) are_light AreSmallFamilies families-kept
+families_shape = tested_shape (one_to_most_shape FAMILIES family_shape) are_light AreSmallFamilies families-kept

@@ -15,7 +15,7 @@ use Rattle.joint_partition.specs.Splits.{SplitTree}
 use Rattle.joint_partition.specs.Term.{JointFamily, JointTerm}
 use Rattle.joint_partition.specs.View.{family_of, joint_of, split_of}
 use Rattle.joint_text.specs.Families.{families_shape}
-use Rattle.joint_text.specs.OneTo.{one_to_shape}
+use Rattle.json_parts.specs.OneToMost.{one_to_most_shape}
 use Rattle.joint_text.specs.Parts.{IsPart, WrittenPart, part_shape, written_part}
 use Rattle.joint_text.specs.Splits.{split_shape}
 
@@ -41,7 +41,7 @@ joint_fields =
     (field (codes "credits") (few_shape JOINT_CREDITS credit_shape)
     (field (codes "distinct") (list_shape split_shape)
     (field (codes "families") families_shape
-    (field (codes "parts") (one_to_shape PARTS part_shape)
+    (field (codes "parts") (one_to_most_shape PARTS part_shape)
     (field (codes "q") (natural_shape 1 WEIGHT)
     no_fields)))))))
 

@@ -1,4 +1,3 @@
-pub mod OneTo
 pub mod Splits
 pub mod Parts
 pub mod Families

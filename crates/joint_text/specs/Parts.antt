@@ -15,7 +15,7 @@ use Rattle.certificate_parts.specs.Nests.{nest_shape}
 use Rattle.certificate_parts.specs.Polynomials.{ArePolynomials, polynomial_shape, written_polynomial}
 use Rattle.joint_partition.specs.declared.term.Part.{Part}
 use Rattle.joint_partition.specs.Term.{PartTerm}
-use Rattle.joint_text.specs.OneTo.{one_to_shape}
+use Rattle.json_parts.specs.OneToMost.{one_to_most_shape}
 
 -- what a part claims, its polynomials as they are written
 pub record WrittenPart : Type 0 where
@@ -35,7 +35,7 @@ abbrev pub part_fields : Fields PartMembers
 part_fields =
     field (codes "inside") all_multipliers_shape
     (field (codes "inverse") inverse_shape
-    (field (codes "map") (one_to_shape NEST_VARIABLES form_shape)
+    (field (codes "map") (one_to_most_shape NEST_VARIABLES form_shape)
     (field (codes "nest") nest_shape
     (field (codes "shown") all_multipliers_shape
     (field (codes "statement") (natural_shape 0 65535)

@@ -7,20 +7,18 @@ ghost use Rattle.joint_partition.specs.View.{family_of, labeling_of, start_of, w
 ghost use Rattle.joint_text.specs.Families.{families_shape, family_shape, labeling_shape, start_shape, way_shape, weights_of, AreSmallFamilies};
 ghost use Rattle.json_parts.specs.Related.{plain_link};
 
-use crate::one_to::OneTo;
 use affine_form::Memory;
 use certificate_parts::{OfForm, OfRegion, OfWalk};
 use cover_lp::CoordSet;
 use joint_partition::limits::JOINT_WEIGHTS;
 use joint_partition::{JointFamily, Labeling, Start, Way};
 use json_parts::{
-    Any8, Boxed, CertError, End, ListOf, Number8, Number32, OrNull, Part, Put, PutList, fault,
-    put_part, read_object, write_list, write_object,
+    Any8, Boxed, CertError, End, ListOf, Number8, Number32, OneToMost, OrNull, Part, fault, put,
+    put_list, put_part, read_object, write_list, write_object,
 };
 use json_values::Json;
 use serde_json::Value;
 use std::alloc::Global;
-use std::marker::PhantomData;
 
 type Labels = ListOf<OrNull<Boxed<ListOf<OfForm>>>>;
 
@@ -123,11 +121,11 @@ type Scale = Number32<1, 1048576>;
 
 type Weight = Number8<1, 12>;
 
-type Ways = OneTo<OfWay, 8>;
+type Ways = OneToMost<OfWay, 8>;
 
 type Behind = (ListOf<OfStart>, (Ways, (Weight, End)));
 
-type Labelings = OneTo<OfLabeling, 4>;
+type Labelings = OneToMost<OfLabeling, 4>;
 
 type Members = (Number8<0, 5>, (Labelings, (Scale, (ListOf<Any8>, Behind))));
 
@@ -202,7 +200,7 @@ impl Part for OfFamilies {
 
     #[tactic(auto, unfolding(crate::specs::Families::families_shape))]
     fn read(alloc: Global, value: &Json) -> Result<Vec<JointFamily>, CertError> {
-        let families = <OneTo<OfFamily, 6> as Part>::read(alloc, value)?;
+        let families = <OneToMost<OfFamily, 6> as Part>::read(alloc, value)?;
         if weight_of(families.as_slice()) <= JOINT_WEIGHTS {
             Ok(families)
         } else {

@@ -4,7 +4,6 @@ ghost use Rattle.joint_partition.specs.Limits.{IsSmallJoint};
 ghost use Rattle.joint_text.specs.Joint.{joint_link, joint_shape, members_shape, WrittenJoint};
 
 use crate::families::OfFamilies;
-use crate::one_to::OneTo;
 use crate::parts::OfPart;
 use crate::splits::OfSplit;
 use affine_form::Memory;
@@ -12,13 +11,12 @@ use certificate_parts::{OfCredit, OfMultipliers};
 use claims::{ObjectKey, Step};
 use joint_partition::Joint;
 use json_parts::{
-    CertError, End, Few, ListOf, Number8, Number32, Part, Put, fault, read_object, under,
-    write_object,
+    CertError, End, Few, ListOf, Number8, Number32, OneToMost, Part, fault, put, read_object,
+    under, write_object,
 };
 use json_values::Json;
 use serde_json::Value;
 use std::alloc::Global;
-use std::marker::PhantomData;
 
 /// The members of a joint term.
 struct OfMembers {}
@@ -31,7 +29,7 @@ type Shown = ListOf<OfMultipliers>;
 
 type Credits = Few<OfCredit, 8>;
 
-type Parts = OneTo<OfPart, 4>;
+type Parts = OneToMost<OfPart, 4>;
 
 type Times = Number8<1, 12>;
 

@@ -5,23 +5,23 @@ ghost use Rattle.joint_partition.specs.View.{part_of};
 ghost use Rattle.joint_text.specs.Parts.{part_shape, written_part, IsPart, WrittenPart};
 ghost use Rattle.json_parts.specs.Related.{other_link};
 
-use crate::one_to::OneTo;
 use affine_form::Memory;
 use certificate_parts::{OfForm, OfInverse, OfMultipliers, OfNest, OfPolynomial};
 use domain_count::Sums;
 use joint_partition::Part as JointPart;
-use json_parts::{Any16, CertError, End, ListOf, Part, Put, PutList, read_object, write_object};
+use json_parts::{
+    Any16, CertError, End, ListOf, OneToMost, Part, put, put_list, read_object, write_object,
+};
 use json_values::Json;
 use serde_json::Value;
 use std::alloc::Global;
-use std::marker::PhantomData;
 
 /// A part of a joint term.
 pub(crate) struct OfPart {}
 
 type Shown = ListOf<OfMultipliers>;
 
-type Image = OneTo<OfForm, 6>;
+type Image = OneToMost<OfForm, 6>;
 
 type Behind = (OfNest, (Shown, (Any16, (ListOf<OfPolynomial>, End))));
 

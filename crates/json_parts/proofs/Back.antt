@@ -1,13 +1,14 @@
 -- Numbers and lists that are written, read.
 use Rattle.std.proofs.Common.{◌≡◌, ℕ, suc, ◌<◌, ◌≤◌, List, [], ◌∷◌, length, map, Ok, Some, Bool, true, refl, ap, eq-eqb, arith}
 use Rattle.std.proofs.Math.IntN.{ℤ, pos, negsuc}
-use Rattle.std.specs.Prelude.{unsigned_abs}
+use Rattle.std.specs.Prelude.{not, unsigned_abs}
 use Rattle.std.specs.List.{AllByRecursion}
-use Rattle.std.proofs.lemmas.Bool.{le-leb, lt-ltb}
+use Rattle.std.proofs.lemmas.Bool.{le-leb, lt-ltb, ne_eqb}
 use Rattle.std.proofs.lemmas.List.{length-map}
 use Rattle.serde_json.specs.Data.{Data, null, boolean, number, string, array, object}
 use Rattle.json_parts.specs.Outcome.{Outcome, ◌>>=◌, fault}
 use Rattle.json_parts.specs.Json.{reads_list, reads_short_list, each, reads_all, reads_few, reads_or_null, integer_of, reads_integer, reads_natural, reads_exactly}
+use Rattle.json_parts.specs.OneToMost.{has_some, one_to_most_shape}
 use Rattle.json_parts.specs.Shape.{Shape, IsReadBack, tested_at_shape}
 use Rattle.json_parts.specs.Written.{list, whole, natural}
 use Rattle.json_parts.proofs.Items.{list_of-items_of}
@@ -66,6 +67,13 @@ pub few_read : {A : Type 0} (most : ℕ) (reader : Data → Outcome A) (data_of 
     → reads_few most reader (list (map data_of xs)) ≡ Ok xs
 unfolding reads_few
 few_read most reader data_of xs few h = rw (short_list-read most (map data_of xs) (omega (arith, few, length-map xs data_of))) (each-read reader data_of 0 xs h)
+
+-- a list of one at least and so many at most
+with_one : {A : Type 0} (xs : List A) → (length xs ≡ 0 → ⊥) → has_some xs ≡ true
+with_one xs some = ap not (ne_eqb (length xs) 0 some)
+
+pub one_to_most_read : {A : Type 0} (most : ℕ) (shape : Shape A) (xs : List A) → length xs ≤ most → (length xs ≡ 0 → ⊥) → AllByRecursion (IsReadBack shape) xs → IsReadBack (one_to_most_shape most shape) xs
+one_to_most_read most shape xs few some each = rw (few_read most shape.reads shape.data_of xs few each, with_one xs some) refl
 
 -- ---- null or a value
 

@@ -1,4 +1,5 @@
 pub mod Back
+pub mod Related
 pub mod FieldsBack
 pub mod Keys
 pub mod Items

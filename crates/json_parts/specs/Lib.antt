@@ -5,6 +5,7 @@ pub mod Truths
 pub mod Given
 pub mod Related
 pub mod Shape
+pub mod OneToMost
 pub mod Names
 pub mod Fields
 pub mod Texts

@@ -14,6 +14,7 @@ mod lists;
 mod members;
 mod nullable;
 mod numbers;
+mod one_to_most;
 mod part;
 mod puts;
 
@@ -24,5 +25,6 @@ pub use lists::{Few, ListOf, write_list};
 pub use members::{End, Members, member, read_object, said_member};
 pub use nullable::OrNull;
 pub use numbers::{Any8, Any16, Exactly, Number8, Number32};
+pub use one_to_most::OneToMost;
 pub use part::Part;
 pub use puts::{Put, PutFew, PutList, Puts, put_list, put_part, write_object};

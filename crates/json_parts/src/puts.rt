@@ -158,6 +158,30 @@ impl<'a, S: Part, R: Puts, const MOST: usize> Puts for PutFew<'a, S, S::Value, R
     ghost names_are = { λ names so_many. one-more-name R.COUNT (λ more. (R.fields more).names) (λ more some. R.names_are more some) names so_many };
 }
 
+/// A part that is to be written as a member, and those behind it.
+#[macro_export]
+macro_rules! put {
+    ($of:ty, $value:expr, $rest:expr) => {
+        $crate::Put {
+            value: $value,
+            rest: $rest,
+            of: std::marker::PhantomData::<$of>,
+        }
+    };
+}
+
+/// A list of such parts.
+#[macro_export]
+macro_rules! put_list {
+    ($of:ty, $values:expr, $rest:expr) => {
+        $crate::PutList {
+            values: $values,
+            rest: $rest,
+            of: std::marker::PhantomData::<$of>,
+        }
+    };
+}
+
 /// This value, and the members behind it.
 pub fn put_part<'a, S: Part, R: Puts>(value: &'a S::Value, rest: R) -> Put<'a, S, S::Value, R>
     ensures value { result.value.now ≡ value.now }

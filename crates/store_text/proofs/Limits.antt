@@ -11,7 +11,7 @@ use Rattle.certificate_parts.specs.Inverses.{inverse_shape}
 use Rattle.store_text.specs.Outputs.{OutputMembers, WrittenOutput, output_fields, output_shape}
 use Rattle.store_text.specs.Read.{IsOutput, IsStores}
 use Rattle.store_text.specs.Stores.{WrittenStores, stores_shape}
-use Rattle.certificate_parts.proofs.Related.{all_related, as_many}
+use Rattle.json_parts.proofs.Related.{all_related, as_many}
 
 -- the members of an output with these polynomials
 abbrev members_with : OutputClaim → List Polynomial → OutputMembers

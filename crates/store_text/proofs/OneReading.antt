@@ -16,7 +16,7 @@ use Rattle.store_text.specs.Read.{IsOutput, IsStores, output_with}
 use Rattle.store_text.specs.Stores.{WrittenStores, reads_stores}
 use Rattle.store_text.specs.Texts.{HasStores, IsTextFault}
 use Rattle.certificate_parts.proofs.OnePolynomial.{one-polynomial}
-use Rattle.certificate_parts.proofs.Related.{all-one}
+use Rattle.json_parts.proofs.Related.{all-one}
 
 -- ---- what is written is one
 

@@ -9,11 +9,10 @@ ghost use Rattle.store_text.specs.Read.{IsOutput, written_output};
 use affine_form::Memory;
 use certificate_parts::{OfForm, OfInverse, OfMultipliers, OfNest, OfPolynomial};
 use domain_count::Sums;
-use json_parts::{Any16, CertError, End, ListOf, Part, Put, PutList, read_object, write_object};
+use json_parts::{Any16, CertError, End, ListOf, Part, put, put_list, read_object, write_object};
 use json_values::Json;
 use serde_json::Value;
 use std::alloc::Global;
-use std::marker::PhantomData;
 use store_terms::Output;
 
 /// An output.

@@ -12,7 +12,7 @@ use Rattle.store_terms.specs.declared.output.Output.{Output}
 use Rattle.store_text.specs.Read.{IsOutput, IsStores}
 use Rattle.store_text.specs.Stores.{StoresMembers, stores_fields, stores_made, stores_shape}
 use Rattle.store_text.proofs.Limits.{read_stores_small}
-use Rattle.certificate_parts.proofs.Related.{all-mapped}
+use Rattle.json_parts.proofs.Related.{all-mapped}
 use Rattle.store_text.proofs.reading.stores_in.Goals as goal
 
 abbrev parts_of : Vec Output Global → Option ℕ → Vec FarkasMultipliers Global → StoresParts

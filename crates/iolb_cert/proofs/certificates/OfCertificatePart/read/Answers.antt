@@ -14,7 +14,7 @@ use Rattle.iolb_cert.specs.Certificates.{CertificateMembers, certificate_fields,
 use Rattle.iolb_cert.specs.Read.{IsBranch, IsCertificate}
 use Rattle.iolb_cert.specs.Written.{branch_link}
 use Rattle.iolb_cert.proofs.Limits.{read_certificate_small}
-use Rattle.certificate_parts.proofs.Related.{all-mapped}
+use Rattle.json_parts.proofs.Related.{all-mapped}
 use Rattle.iolb_cert.proofs.certificates.OfCertificatePart.read.Goals as goal
 
 abbrev parts_of : Quasts → Vec Branch Global → CertificateParts

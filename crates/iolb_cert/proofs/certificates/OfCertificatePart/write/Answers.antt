@@ -2,7 +2,7 @@ use Rattle.std.proofs.Common.{map, refl}
 use Rattle.iolb_check.specs.Claims.{claim_of_branch}
 use Rattle.iolb_cert.specs.Read.{IsBranch}
 use Rattle.iolb_cert.specs.Written.{written_branch}
-use Rattle.certificate_parts.proofs.Related.{all-mapped}
+use Rattle.json_parts.proofs.Related.{all-mapped}
 use Rattle.iolb_cert.proofs.certificates.OfCertificatePart.write.Goals as goal
 
 pub returns-clause-is : goal.returns-clause-is

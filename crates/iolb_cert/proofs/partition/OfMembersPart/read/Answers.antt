@@ -5,7 +5,7 @@ use Rattle.json_parts.proofs.Failing.{made_fails}
 use Rattle.iolb_cert.specs.PartitionTexts.{partition_fields, partition_made, members_shape}
 use Rattle.k_partition.specs.View.{credit_term_of}
 use Rattle.joint_text.specs.Joint.{IsCreditTerm}
-use Rattle.certificate_parts.proofs.Related.{all-mapped}
+use Rattle.json_parts.proofs.Related.{all-mapped}
 use Rattle.iolb_cert.proofs.partition.OfMembersPart.read.Goals as goal
 
 pub returns-in_err-a : goal.returns-in_err-a

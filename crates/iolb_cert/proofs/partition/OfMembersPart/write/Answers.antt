@@ -5,7 +5,7 @@ use Rattle.iolb_cert.specs.PartitionTexts.{partition_fields, partition_made, par
 use Rattle.iolb_cert.specs.Written.{written_partition}
 use Rattle.joint_text.specs.Joint.{IsCreditTerm}
 use Rattle.k_partition.specs.View.{credit_term_of}
-use Rattle.certificate_parts.proofs.Related.{all-mapped}
+use Rattle.json_parts.proofs.Related.{all-mapped}
 use Rattle.iolb_cert.proofs.partition.OfMembersPart.write.Goals as goal
 
 pub returns-clause-read : goal.returns-clause-read

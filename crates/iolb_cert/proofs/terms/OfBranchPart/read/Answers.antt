@@ -5,7 +5,7 @@ use Rattle.json_parts.proofs.Failing.{made_fails}
 use Rattle.iolb_cert.specs.Terms.{branch_fields, branch_made, branch_shape}
 use Rattle.iolb_check.specs.Claims.{claim_of_term}
 use Rattle.iolb_cert.specs.Read.{IsTerm}
-use Rattle.certificate_parts.proofs.Related.{all-mapped}
+use Rattle.json_parts.proofs.Related.{all-mapped}
 use Rattle.iolb_cert.proofs.terms.OfBranchPart.read.Goals as goal
 
 pub returns-in_err-disjoint : goal.returns-in_err-disjoint

@@ -3,7 +3,7 @@ use Rattle.iolb_check.specs.Claims.{claim_of_term}
 use Rattle.iolb_cert.specs.Read.{IsTerm}
 use Rattle.iolb_cert.specs.Written.{written_term}
 use Rattle.std.proofs.Common.{map}
-use Rattle.certificate_parts.proofs.Related.{all-mapped}
+use Rattle.json_parts.proofs.Related.{all-mapped}
 use Rattle.iolb_cert.proofs.terms.OfBranchPart.write.Goals as goal
 
 pub returns-clause-is : goal.returns-clause-is

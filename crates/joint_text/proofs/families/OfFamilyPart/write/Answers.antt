@@ -1,12 +1,12 @@
-use Rattle.std.proofs.Common.{refl, length, arith}
+use Rattle.std.proofs.Common.{refl, arith}
 use Rattle.std.proofs.lemmas.List.{length-map}
 use Rattle.base_laws.proofs.Lists.{All-every}
 use Rattle.json_parts.specs.Fields.{object_shape}
 use Rattle.json_parts.proofs.Back.{made_read}
 use Rattle.joint_partition.specs.Limits.{IsSmallLabeling, IsSmallStart, IsSmallWay}
 use Rattle.joint_partition.specs.View.{family_of, labeling_of, start_of, way_of}
-use Rattle.joint_text.specs.Families.{family_fields, family_made, family_parts, family_shape}
-use Rattle.joint_text.proofs.SomeOf.{each-of}
+use Rattle.joint_text.specs.Families.{joint_family_fields, family_made, family_parts, family_shape}
+use Rattle.json_parts.proofs.Related.{each-of}
 use Rattle.joint_text.proofs.families.OfFamilyPart.write.Goals as goal
 
 pub write_object-requires-clause-fit : goal.write_object-requires-clause-fit
@@ -45,4 +45,4 @@ write_object-requires-clause-fit c =
 
 pub returns-clause-read : goal.returns-clause-read
 unfolding family_shape
-returns-clause-read c = made_read (object_shape family_fields) family_made family_parts (family_of c.args.part.now) refl (rw (← c.coords.ensures) c.in_ok-value.ensures.read)
+returns-clause-read c = made_read (object_shape joint_family_fields) family_made family_parts (family_of c.args.part.now) refl (rw (← c.coords.ensures) c.in_ok-value.ensures.read)

@@ -3,7 +3,7 @@ use Rattle.json_values.specs.View.{json_data}
 use Rattle.json_parts.specs.Fields.{reads_object}
 use Rattle.json_parts.proofs.Failing.{made_fails}
 use Rattle.k_partition.specs.View.{credit_term_of}
-use Rattle.certificate_parts.proofs.Related.{all-mapped}
+use Rattle.json_parts.proofs.Related.{all-mapped}
 use Rattle.joint_partition.specs.View.{part_of}
 use Rattle.joint_text.specs.Joint.{IsCreditTerm, joint_fields, joint_made, members_shape}
 use Rattle.joint_text.specs.Parts.{IsPart}

@@ -1,16 +1,24 @@
-use Rattle.std.proofs.Common.{refl, length, map, sum_by, arith}
+use Rattle.std.proofs.Common.{refl, List, [], ◌∷◌, arith}
+use Rattle.std.specs.List.{AllByRecursion}
 use Rattle.std.proofs.lemmas.List.{length-map}
 use Rattle.json_parts.specs.Fields.{object_shape}
 use Rattle.json_parts.proofs.Back.{made_read}
 use Rattle.k_partition.specs.View.{credit_term_of}
-use Rattle.certificate_parts.proofs.Related.{all-mapped}
-use Rattle.certificate_fit.specs.Limits.{IsSmallCredit}
+use Rattle.json_parts.proofs.Related.{all-mapped, each-of}
+use Rattle.certificate_fit.specs.Limits.{IsSmallCredit, IsSmallPolynomial, NameRows}
+use Rattle.certificate_parts.specs.Nests.{IsSmallNest}
+use Rattle.reuse_paths.specs.declared.family.Credit.{Credit}
 use Rattle.joint_partition.specs.Limits.{IsSmallSplit}
 use Rattle.joint_partition.specs.View.{family_of, part_of, split_of}
 use Rattle.joint_text.specs.Joint.{IsCreditTerm, joint_fields, joint_made, joint_members, members_shape, written_joint}
 use Rattle.joint_text.specs.Parts.{IsPart}
-use Rattle.joint_text.proofs.SomeOf.{credits-fit, each-of}
 use Rattle.joint_text.proofs.joint.OfMembersPart.write.Goals as goal
+
+-- credited nests within their limits, as they are written
+credits-fit : (credits : List Credit) → AllByRecursion IsSmallCredit credits
+    → AllByRecursion (λ (credit : Credit). IsSmallNest credit.nest × NameRows credit.sums.shown × AllByRecursion IsSmallPolynomial credit.sums.sums) credits
+credits-fit [] all = tt
+credits-fit (credit ∷ credits) all = (((all.0.bounds, all.0.variables), all.0.shown, all.0.sums), credits-fit credits all.1)
 
 pub write_object-requires-clause-fit : goal.write_object-requires-clause-fit
 write_object-requires-clause-fit c =

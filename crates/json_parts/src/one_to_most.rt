@@ -1,31 +1,33 @@
 //! Lists that have a member.
 
-ghost use Rattle.joint_text.specs.OneTo.{one_to_shape, AreSome};
-ghost use Rattle.json_parts.specs.Related.{list_link};
 ghost use Rattle.std.specs.Prelude.{List};
+ghost use Rattle.json_parts.specs.OneToMost.{AreOneToMost, one_to_most_shape};
+ghost use Rattle.json_parts.specs.Related.{list_link};
 
+use crate::error::{CertError, fault};
+use crate::lists::{Few, write_list};
+use crate::part::Part;
 use affine_form::Memory;
-use json_parts::{CertError, Few, Part, fault, write_list};
 use json_values::Json;
 use serde_json::Value;
 use std::alloc::Global;
 use std::marker::PhantomData;
 
-/// A list of one member at least and so many at most.
-pub(crate) struct OneTo<S, const MOST: usize> {
+/// A list of one at least and so many at most.
+pub struct OneToMost<S, const MOST: usize> {
     of: PhantomData<S>,
 }
 
-impl<S: Part, const MOST: usize> Part for OneTo<S, MOST> {
+impl<S: Part, const MOST: usize> Part for OneToMost<S, MOST> {
     type Value = Vec<S::Value>;
 
     ghost Said = { List S.Said };
 
-    ghost shape = { one_to_shape MOST S.shape };
+    ghost shape = { one_to_most_shape MOST S.shape };
 
     ghost link = { list_link S.link };
 
-    ghost Fits = { λ all. AreSome MOST S.Fits all.items };
+    ghost Fits = { λ all. AreOneToMost MOST S.Fits all.items };
 
     fn read(alloc: Global, value: &Json) -> Result<Vec<S::Value>, CertError> {
         let all = <Few<S, MOST> as Part>::read(alloc, value)?;

@@ -11,13 +11,13 @@ pub some-counted : {A : Type 0} (xs : List A) → has_some xs ≡ true → 1 ≤
 some-counted [] is = absurd cc
 some-counted (x ∷ xs) is = omega arith
 
--- one member at least and so many at most, each within its limits
-pub record AreSome {A : Type 0} (most : ℕ) (IsWithin : A → Type 0) (xs : List A) : Type 0 where
+-- one at least and so many at most, each within its limits
+pub record AreOneToMost {A : Type 0} (most : ℕ) (IsWithin : A → Type 0) (xs : List A) : Type 0 where
   pub all : AllByRecursion IsWithin xs
   pub few : length xs ≤ most
   pub some : 1 ≤ length xs
 
--- a list of one member at least and so many at most; without one it is at fault
-abbrev pub one_to_shape : {A : Type 0} → ℕ → Shape A → Shape (List A)
-one_to_shape most shape =
-    tested_shape (few_shape most shape) has_some (AreSome most shape.IsWithin) (λ xs small is. record { all = small.0; few = small.1; some = some-counted xs is })
+-- a list of one at least and so many at most; an empty one is at fault
+abbrev pub one_to_most_shape : {A : Type 0} → ℕ → Shape A → Shape (List A)
+one_to_most_shape most shape =
+    tested_shape (few_shape most shape) has_some (AreOneToMost most shape.IsWithin) (λ xs small is. record { all = small.0; few = small.1; some = some-counted xs is })

@@ -1,9 +1,9 @@
 use Rattle.std.proofs.Common.{◌≡◌, ◌∙◌, sym, ap, ℕ, length, false, nat_eq, refl}
 use Rattle.std.specs.Prelude.{not}
 use Rattle.json_parts.proofs.Failing.{fails_fault}
-use Rattle.joint_text.specs.OneTo.{has_some}
-use Rattle.joint_text.proofs.SomeOf.{many}
-use Rattle.joint_text.proofs.one_to.OneToPart.read.Goals as goal
+use Rattle.json_parts.specs.OneToMost.{has_some}
+use Rattle.json_parts.proofs.Related.{many}
+use Rattle.json_parts.proofs.one_to_most.OneToMostPart.read.Goals as goal
 
 pub returns-then-is_empty : goal.returns-then-is_empty
 returns-then-is_empty g c =
