@@ -24,7 +24,7 @@ pub struct Proposed<T> {
 
 /// The rows of two lists of words together: those of the first, those of the second without its assumptions, and that their
 /// points are equal.
-fn shared(alloc: Global, facts: &Facts, first: &Words, second: &Words) -> Result<Rows, Memory> {
+pub fn shared(alloc: Global, facts: &Facts, first: &Words, second: &Words) -> Result<Rows, Memory> {
     let params = facts.params;
     let by = first.given.vars.saturating_sub(params);
     let mut rows = copies(alloc, first.given.rows.as_slice())?;

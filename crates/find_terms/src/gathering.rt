@@ -27,17 +27,18 @@ fn term_of(term: StretchTerm) -> Term {
     }
 }
 
-/// Terms over stretches of different statements with different words, strongest first.
-fn partitions(
+/// Terms over stretches with different words, strongest first; of several parts only where these may be.
+fn stretches(
     alloc: Global,
     program: &Program,
     facts: &Facts,
     candidates: &[Candidate],
+    with_parts: bool,
 ) -> Result<Gathered, Memory> {
     let mut terms = Vec::new(alloc);
     let mut taken: Vec<Vec<Words>> = Vec::new(alloc);
     for candidate in candidates {
-        if terms.len() < limits::TERMS {
+        if terms.len() < limits::TERMS && (with_parts || !candidate.has_parts()) {
             if let Some(proposed) = candidate.beside(alloc, program, facts, taken.as_slice())? {
                 terms.push(term_of(proposed.term))?;
                 taken.push(proposed.words)?;
@@ -159,8 +160,20 @@ fn without_empty(alloc: Global, all: Vec<Gathered>) -> Result<Vec<Gathered>, Mem
     Ok(some)
 }
 
-/// Terms for branches, before cold terms are added, where there are some: partition terms and then wavefront terms with different
-/// words together, where they are several; wavefront terms alone.
+/// Terms over stretches and then wavefront terms with different words together.
+fn together(
+    alloc: Global,
+    program: &Program,
+    facts: &Facts,
+    candidates: &[Candidate],
+    with_parts: bool,
+) -> Result<Gathered, Memory> {
+    let some = stretches(alloc, program, facts, candidates, with_parts)?;
+    with_wavefronts(alloc, program, facts, some)
+}
+
+/// Terms for branches, before cold terms are added, where there are some: terms over stretches and then wavefront terms with different
+/// words together, where they are several, with and without those of several parts; wavefront terms alone.
 fn mixed(
     alloc: Global,
     program: &Program,
@@ -168,19 +181,23 @@ fn mixed(
     candidates: &[Candidate],
 ) -> Result<Vec<Gathered>, Memory> {
     let mut all = Vec::new(alloc);
-    let some = partitions(alloc, program, facts, candidates)?;
-    let is_mixed = !some.terms.is_empty();
-    let first = with_wavefronts(alloc, program, facts, some)?;
-    if first.terms.len() > 1 || !is_mixed {
-        all.push(first)?;
+    if candidates.iter().any(|candidate| candidate.has_parts()) {
+        let first = together(alloc, program, facts, candidates, true)?;
+        if first.terms.len() > 1 {
+            all.push(first)?;
+        }
     }
-    if is_mixed {
-        all.push(with_wavefronts(alloc, program, facts, nothing(alloc))?)?;
+    if !candidates.is_empty() {
+        let second = together(alloc, program, facts, candidates, false)?;
+        if second.terms.len() > 1 {
+            all.push(second)?;
+        }
     }
+    all.push(with_wavefronts(alloc, program, facts, nothing(alloc))?)?;
     without_empty(alloc, all)
 }
 
-/// Terms for branches: mixed ones; cold terms alone; then each partition term by itself, strongest first. In each but that of cold
+/// Terms for branches: mixed ones; cold terms alone; then each term over stretches by itself, strongest first. In each but that of cold
 /// terms the cold terms whose cells differ from what is counted stand behind.
 fn gatherings(alloc: Global, program: &Program, facts: &Facts) -> Result<Vec<Gathered>, Memory> {
     let Choice {
@@ -202,8 +219,8 @@ fn gatherings(alloc: Global, program: &Program, facts: &Facts) -> Result<Vec<Gat
     Ok(all)
 }
 
-/// Branches: partition terms and then wavefront terms with different words together, where they are several; wavefront terms
-/// alone; cold terms alone; then each partition term by itself, strongest first. In each the cold terms whose cells differ from
+/// Branches: terms over stretches and then wavefront terms with different words together, where they are several; wavefront terms
+/// alone; cold terms alone; then each term over stretches by itself, strongest first. In each the cold terms whose cells differ from
 /// what is counted stand behind. Nothing is promised of them.
 pub(crate) fn proposals(
     alloc: Global,

@@ -1,33 +1,55 @@
 //! What is proposed for each statement.
 
+use crate::apart::{Tried, try_ways};
 use crate::coordinates::Coordinates;
-use crate::mirrored::mirrored_term;
-use crate::terms::{StretchTerm, strength, stretch_term};
+use crate::growing::{Stronger, grown};
+use crate::schemes::{Scheme, scheme_of};
+use crate::strength::{StretchTerm, strength};
+use crate::terms::{single_term, term_grouped};
 use affine_facts::facts::Facts;
 use affine_facts::numbers::short;
-use affine_facts::words::{Proposed, Words};
+use affine_facts::words::{Proposed, Words, are_none_of};
 use affine_form::Memory;
 use affine_program::Program;
+use k_partition::Shape;
 use std::alloc::Global;
 
-/// What a proposal is made of: a statement's instances over some coordinates, or those of a symmetric statement with two loops in each
-/// other's place, too.
-#[derive(Clone, Copy)]
+/// What a proposal is made of: all instances of one statement, or several parts by the ways of a code.
+#[derive(Drop)]
 enum Origin {
-    Over(Coordinates),
-    Mirrored,
+    One(Known),
+    Several(Stronger),
+}
+
+/// A scheme of one statement, and what is known of its families.
+#[derive(Drop)]
+struct Known {
+    scheme: Scheme,
+    tried: Tried,
 }
 
 /// What is proposed for a statement.
 #[derive(Drop)]
 pub struct Candidate {
-    statement: u16,
     origin: Origin,
     pub proposed: Proposed<StretchTerm>,
 }
 
 impl Candidate {
-    /// What is proposed likewise for the statement where none of its words may be one of those that are taken.
+    /// Whether several parts are counted.
+    pub fn has_parts(&self) -> bool {
+        matches!(self.origin, Origin::Several(_))
+    }
+
+    /// Whether there may be other words by other ways of the families' walks.
+    fn has_choice(&self) -> bool {
+        match &self.proposed.term {
+            StretchTerm::Partition(term) => matches!(term.shape, Shape::Sum),
+            StretchTerm::Joint(_) => false,
+        }
+    }
+
+    /// What is proposed likewise where none of its words may be one of those that are taken.
     ///
     /// # Errors
     ///
@@ -39,9 +61,18 @@ impl Candidate {
         facts: &Facts,
         taken: &[Vec<Words>],
     ) -> Result<Option<Proposed<StretchTerm>>, Memory> {
-        match self.origin {
-            Origin::Over(kind) => stretch_term(alloc, program, facts, kind, self.statement, taken),
-            Origin::Mirrored => mirrored_term(alloc, program, facts, self.statement, taken),
+        let words = self.proposed.words.as_slice();
+        if !self.has_choice() && !are_none_of(alloc, facts, words, taken)? {
+            return Ok(None);
+        }
+        match &self.origin {
+            Origin::One(known) => {
+                single_term(alloc, program, facts, &known.scheme, &known.tried, taken)
+            }
+            Origin::Several(stronger) => {
+                let (scheme, code) = (&stronger.scheme, stronger.code);
+                term_grouped(alloc, program, facts, scheme, code, true, taken)
+            }
         }
     }
 }
@@ -61,33 +92,137 @@ fn placed(mut all: Vec<Candidate>, candidate: Candidate) -> Result<Vec<Candidate
     Ok(all)
 }
 
-/// What is proposed for a statement, over its loops or over skewed coordinates, whichever is the stronger.
-fn candidate_of(
+/// The stronger one of two candidates, the first where they are as strong.
+fn stronger_of(first: Option<Candidate>, second: Option<Candidate>) -> Option<Candidate> {
+    match (first, second) {
+        (Some(one), Some(other)) => {
+            if strength(&other.proposed) > strength(&one.proposed) {
+                Some(other)
+            } else {
+                Some(one)
+            }
+        }
+        (Some(one), None) => Some(one),
+        (None, found) => found,
+    }
+}
+
+/// The scheme of a statement over these coordinates, where there is one, with what is known of its families.
+fn known_of(
+    alloc: Global,
+    facts: &Facts,
+    kind: Coordinates,
+    statement: u16,
+) -> Result<Option<Known>, Memory> {
+    match scheme_of(alloc, facts, kind, statement)? {
+        Some(scheme) => {
+            let tried = try_ways(alloc, facts, &scheme)?;
+            Ok(Some(Known { scheme, tried }))
+        }
+        None => Ok(None),
+    }
+}
+
+/// What is proposed for all instances of one statement by a scheme.
+fn alone(
+    alloc: Global,
+    program: &Program,
+    facts: &Facts,
+    known: Option<Known>,
+) -> Result<Option<Candidate>, Memory> {
+    let Some(known) = known else {
+        return Ok(None);
+    };
+    match single_term(alloc, program, facts, &known.scheme, &known.tried, &[])? {
+        Some(proposed) => {
+            let origin = Origin::One(known);
+            Ok(Some(Candidate { origin, proposed }))
+        }
+        None => Ok(None),
+    }
+}
+
+/// What is proposed by a scheme with parts more, where these gain: with as many as can be claimed.
+fn with_parts(
+    alloc: Global,
+    program: &Program,
+    facts: &Facts,
+    known: &Option<Known>,
+) -> Result<Option<Candidate>, Memory> {
+    let Some(known) = known else {
+        return Ok(None);
+    };
+    for stronger in grown(alloc, facts, &known.scheme, &known.tried)?
+        .into_iter()
+        .rev()
+    {
+        let (whole, code) = (&stronger.scheme, stronger.code);
+        let found = term_grouped(alloc, program, facts, whole, code, true, &[])?;
+        if let Some(proposed) = found {
+            let origin = Origin::Several(stronger);
+            return Ok(Some(Candidate { origin, proposed }));
+        }
+    }
+    Ok(None)
+}
+
+/// Puts a candidate, if there is one, behind those that are at least as strong.
+fn put(all: Vec<Candidate>, candidate: Option<Candidate>) -> Result<Vec<Candidate>, Memory> {
+    match candidate {
+        Some(candidate) => placed(all, candidate),
+        None => Ok(all),
+    }
+}
+
+/// Whether a statement behind another one is in as many loops.
+fn has_peer(facts: &Facts, statement: u16) -> bool {
+    let Some(own) = facts.statement(statement) else {
+        return false;
+    };
+    let behind = usize::from(statement).saturating_add(1);
+    facts
+        .statements
+        .as_slice()
+        .iter()
+        .skip(behind)
+        .any(|other| other.depth() == own.depth())
+}
+
+/// What is proposed for a statement and one behind it over coordinates of statements that take turns, where they gain.
+fn in_turns(
     alloc: Global,
     program: &Program,
     facts: &Facts,
     statement: u16,
 ) -> Result<Option<Candidate>, Memory> {
-    let mut best: Option<Candidate> = None;
-    for kind in [Coordinates::Loops, Coordinates::Skewed] {
-        if let Some(proposed) = stretch_term(alloc, program, facts, kind, statement, &[])? {
-            let is_stronger = match &best {
-                Some(other) => strength(&proposed) > strength(&other.proposed),
-                None => true,
-            };
-            if is_stronger {
-                best = Some(Candidate {
-                    statement,
-                    origin: Origin::Over(kind),
-                    proposed,
-                });
-            }
-        }
+    if !has_peer(facts, statement) {
+        return Ok(None);
     }
-    Ok(best)
+    let known = known_of(alloc, facts, Coordinates::Timed(2, 0), statement)?;
+    with_parts(alloc, program, facts, &known)
 }
 
-/// What is proposed for each statement in at least two loops, and for each symmetric one with two loops turned, strongest first.
+/// What is proposed for a statement, among others: for it alone over its loops or over skewed coordinates, whichever is the stronger;
+/// and with parts more, over its loops and over coordinates of statements that take turns.
+fn with_statement(
+    alloc: Global,
+    program: &Program,
+    facts: &Facts,
+    statement: u16,
+    mut all: Vec<Candidate>,
+) -> Result<Vec<Candidate>, Memory> {
+    let plain = known_of(alloc, facts, Coordinates::Loops, statement)?;
+    let skewed = known_of(alloc, facts, Coordinates::Skewed, statement)?;
+    let joint = with_parts(alloc, program, facts, &plain)?;
+    let turns = in_turns(alloc, program, facts, statement)?;
+    let first = alone(alloc, program, facts, plain)?;
+    let second = alone(alloc, program, facts, skewed)?;
+    all = put(all, stronger_of(first, second))?;
+    all = put(all, joint)?;
+    put(all, turns)
+}
+
+/// What is proposed for each statement in at least two loops, alone and with parts more, strongest first.
 ///
 /// # Errors
 ///
@@ -100,18 +235,7 @@ pub fn candidates_of(
     let mut all = Vec::new(alloc);
     for (number, statement) in facts.statements.as_slice().iter().enumerate() {
         if statement.depth() > 1 {
-            let statement = short(number);
-            if let Some(candidate) = candidate_of(alloc, program, facts, statement)? {
-                all = placed(all, candidate)?;
-            }
-            if let Some(proposed) = mirrored_term(alloc, program, facts, statement, &[])? {
-                let candidate = Candidate {
-                    statement,
-                    origin: Origin::Mirrored,
-                    proposed,
-                };
-                all = placed(all, candidate)?;
-            }
+            all = with_statement(alloc, program, facts, short(number), all)?;
         }
     }
     Ok(all)

@@ -19,6 +19,9 @@ pub(crate) enum Coordinates {
     Skewed,
     /// The loop values, with two of them in each other's place.
     Turned(u8, u8),
+    /// So many times the first loop value, and a statement's place among as many, less all others, and the others: what words of a
+    /// stencil keep that move by one from statement to statement.
+    Timed(u8, u8),
 }
 
 /// The loop at a place where two are in each other's place.
@@ -39,33 +42,30 @@ impl Coordinates {
     {
         match self {
             Coordinates::Turned(first, second) => i32::from(turned(first, second, row) == column),
+            Coordinates::Timed(count, _) if row == 0 && column == 0 => i32::from(count),
             _ if row == column => 1,
-            Coordinates::Skewed if row == 0 => -1,
+            Coordinates::Skewed | Coordinates::Timed(_, _) if row == 0 => -1,
             _ => 0,
         }
     }
 
-    /// The entry of the inverse.
-    fn inverse_entry(self, row: usize, column: usize) -> i32
-        ensures { IsSmall NUMBER_SIZE result }
-    {
+    /// What a coordinate is where each loop value is 0.
+    fn offset(self, row: usize) -> i64 {
         match self {
-            Coordinates::Turned(first, second) => i32::from(turned(first, second, row) == column),
-            _ if row == column => 1,
-            Coordinates::Skewed if row == 0 => 1,
+            Coordinates::Timed(_, place) if row == 0 => i64::from(place),
             _ => 0,
         }
     }
 
     /// A coordinate as a form over the parameters and the loop values.
-    pub(crate) fn form(
+    fn form(
         self,
         alloc: Global,
         params: usize,
         depth: usize,
         row: usize,
     ) -> Result<Affine, Memory> {
-        let mut form = Affine::number(alloc, 0);
+        let mut form = Affine::number(alloc, self.offset(row));
         for column in 0..depth {
             let number = i64::from(self.entry(row, column));
             form.add_variable(params.saturating_add(column), number)?;
@@ -73,8 +73,22 @@ impl Coordinates {
         Ok(form)
     }
 
-    /// The entries of the matrix, or of its inverse, row after row.
-    fn entries(self, alloc: Global, depth: usize, of_inverse: bool) -> Result<Vec<i32>, Memory>
+    /// All coordinates of so many loops as forms.
+    pub(crate) fn forms(
+        self,
+        alloc: Global,
+        params: usize,
+        depth: usize,
+    ) -> Result<Vec<Affine>, Memory> {
+        let mut all = Vec::new(alloc);
+        for row in 0..depth {
+            all.push(self.form(alloc, params, depth, row)?)?;
+        }
+        Ok(all)
+    }
+
+    /// The entries of the matrix, row after row.
+    fn entries(self, alloc: Global, depth: usize) -> Result<Vec<i32>, Memory>
         requires few { depth ≤ LOOPS }
         ensures full { IfOk result (λ cells. length cells.items ≡ depth * depth) }
         ensures small { IfOk result (λ cells. AllByRecursion (IsSmall NUMBER_SIZE) cells.items) }
@@ -83,23 +97,15 @@ impl Coordinates {
         for place in 0..depth * depth {
             let row = place.checked_div(depth).unwrap_or(0);
             let column = place.checked_rem(depth).unwrap_or(0);
-            cells.push(if of_inverse {
-                self.inverse_entry(row, column)
-            } else {
-                self.entry(row, column)
-            })?;
+            cells.push(self.entry(row, column))?;
         }
         Ok(cells)
     }
 
-    /// The matrix and its inverse, for loops within the limits.
-    pub(crate) fn matrices(self, alloc: Global, depth: usize) -> Result<(Matrix, Matrix), Memory> {
+    /// The matrix, for loops within the limits.
+    pub(crate) fn matrix(self, alloc: Global, depth: usize) -> Result<Matrix, Memory> {
         let depth = depth.min(limits::LOOPS);
-        let cells = self.entries(alloc, depth, false)?;
-        let inverse = self.entries(alloc, depth, true)?;
-        Ok((
-            Matrix::new(depth, depth, cells),
-            Matrix::new(depth, depth, inverse),
-        ))
+        let cells = self.entries(alloc, depth)?;
+        Ok(Matrix::new(depth, depth, cells))
     }
 }

@@ -27,11 +27,11 @@ pub(crate) enum Choice {
     Tried,
 }
 
-/// How a walk goes on from a statement: by a read, and from the instances that meet a row, if there is one.
+/// How a walk goes on from a statement: by a read, and from the instances that meet rows.
 #[derive(Drop)]
 pub(crate) struct Step {
     pub(crate) read: u16,
-    pub(crate) row: Option<Affine>,
+    pub(crate) rows: Vec<Affine>,
 }
 
 /// What is known of a statement in a family: the label of its instances, and how a walk goes on.
@@ -41,15 +41,20 @@ pub(crate) struct Node {
     pub(crate) step: Option<Step>,
 }
 
-/// A family that is thought out: the read from which its words come, the coordinates and the label of a start, the node of
-/// each statement that it comes to, and the label of the cells of each array.
+/// A family that is thought out: the statement and the read from which its words come, the coordinates and the label of a start, the
+/// node of each statement that it comes to, and the label of the cells of each array.
 #[derive(Drop)]
 pub(crate) struct Draft {
     pub(crate) way: Way,
+    pub(crate) statement: u16,
     pub(crate) choice: Choice,
     pub(crate) read: u16,
     pub(crate) set: Vec<u8>,
     pub(crate) label: Vec<Affine>,
+    /// The number of the part with whose draft it began, if it did with one.
+    pub(crate) seed: Option<usize>,
+    /// The rows that instances of the start's statement are to meet for walks to go on from them.
+    pub(crate) within: Vec<Affine>,
     pub(crate) nodes: Vec<Option<Node>>,
     pub(crate) cells: Vec<Option<Vec<Affine>>>,
 }
@@ -94,22 +99,37 @@ impl Draft {
         }
     }
 
-    /// Lets walks go on from a statement from those of its instances alone that meet a row, where they do go on.
-    pub(crate) fn restrict(&mut self, statement: u16, row: Affine) -> bool {
-        let Some(step) = self.step_of(statement) else {
-            return false;
-        };
-        let read = step.read;
-        self.put_step(statement, read, Some(row));
-        true
+    /// Lets walks go on from a statement from those of its instances alone that meet a row too, where they do go on.
+    pub(crate) fn restrict(&mut self, statement: u16, row: Affine) -> Result<bool, Memory> {
+        if let Some(Some(node)) = self.nodes.get_mut(usize::from(statement)) {
+            if let Some(step) = &mut node.step {
+                step.rows.push(row)?;
+                return Ok(true);
+            }
+        }
+        Ok(false)
     }
 
     /// Lets walks go on from a statement by a read.
-    pub(crate) fn put_step(&mut self, statement: u16, read: u16, row: Option<Affine>) {
+    pub(crate) fn put_step(&mut self, statement: u16, read: u16, rows: Vec<Affine>) {
         if let Some(Some(node)) = self.nodes.get_mut(usize::from(statement)) {
-            node.step = Some(Step { read, row });
+            node.step = Some(Step { read, rows });
         }
     }
+}
+
+/// A draft whose walks go on from those instances alone of the start's statement that meet rows.
+pub(crate) fn kept_within(
+    alloc: Global,
+    mut draft: Draft,
+    rows: &[Affine],
+) -> Result<Draft, Memory> {
+    let statement = draft.statement;
+    for row in rows {
+        draft.restrict(statement, row.copied(alloc)?)?;
+    }
+    draft.within = copies(alloc, rows)?;
+    Ok(draft)
 }
 
 /// A family without nodes.
@@ -118,6 +138,7 @@ pub(crate) fn empty_draft(
     facts: &Facts,
     way: Way,
     choice: Choice,
+    statement: u16,
     read: u16,
     set: Vec<u8>,
     label: Vec<Affine>,
@@ -133,12 +154,28 @@ pub(crate) fn empty_draft(
     Ok(Draft {
         way,
         choice,
+        statement,
         read,
         set,
         label,
+        seed: None,
+        within: Vec::new(alloc),
         nodes,
         cells,
     })
+}
+
+/// A family that begins with what another draft knows of words, if there is one.
+pub(crate) fn seeded(
+    alloc: Global,
+    mut draft: Draft,
+    seed: Option<&Draft>,
+) -> Result<Draft, Memory> {
+    if let Some(other) = seed {
+        draft.nodes = copied_nodes(alloc, other.nodes.as_slice())?;
+        draft.cells = copied_cells(alloc, other.cells.as_slice())?;
+    }
+    Ok(draft)
 }
 
 /// A copy of the label, where there is one.
@@ -153,17 +190,14 @@ pub(crate) fn copied_label(
 }
 
 fn copied_step(alloc: Global, step: &Step) -> Result<Step, Memory> {
-    let row = match &step.row {
-        None => None,
-        Some(row) => Some(row.copied(alloc)?),
-    };
     Ok(Step {
         read: step.read,
-        row,
+        rows: copies(alloc, step.rows.as_slice())?,
     })
 }
 
-fn copied_node(alloc: Global, node: &Node) -> Result<Node, Memory> {
+/// A copy of what is known of a statement.
+pub(crate) fn copied_node(alloc: Global, node: &Node) -> Result<Node, Memory> {
     let step = match &node.step {
         None => None,
         Some(step) => Some(copied_step(alloc, step)?),
@@ -204,9 +238,12 @@ pub(crate) fn copied(alloc: Global, draft: &Draft) -> Result<Draft, Memory> {
     Ok(Draft {
         way: draft.way,
         choice: draft.choice,
+        statement: draft.statement,
         read: draft.read,
         set: Vec::from_slice(alloc, draft.set.as_slice())?,
         label: copies(alloc, draft.label.as_slice())?,
+        seed: draft.seed,
+        within: copies(alloc, draft.within.as_slice())?,
         nodes: copied_nodes(alloc, draft.nodes.as_slice())?,
         cells: copied_cells(alloc, draft.cells.as_slice())?,
     })

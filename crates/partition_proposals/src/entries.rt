@@ -1,6 +1,7 @@
 //! What is claimed at the leaves of a read's source tree, as far as multipliers are found.
 
 use crate::drafts::{Draft, Way};
+use crate::points::Points;
 use affine_facts::affine::{Affine, copies};
 use affine_facts::facts::{Facts, Origin, ReadFacts, TreeLeaf};
 use affine_facts::fitted::fitted;
@@ -10,7 +11,6 @@ use affine_facts::numbers::narrow;
 use affine_facts::shown::{Rows, all_put, all_shown, equalities, followed, within};
 use affine_facts::words::Words;
 use affine_form::{Memory, Multipliers};
-use iolb_model::limits;
 use reuse_paths::Leaf;
 use std::alloc::Global;
 
@@ -44,13 +44,14 @@ impl Room {
     }
 }
 
-/// A term as it is made: the statement, the bounds of what is counted, how much room nests have that are credited, and those that
-/// are so far.
+/// A term as it is made: how many loops are around what is counted, the points of its parts, how much room nests have that are
+/// credited, how many these are at most, and those that are so far.
 #[derive(Drop)]
 pub(crate) struct Work {
-    pub(crate) statement: u16,
-    pub(crate) bounds: Vec<(Affine, Affine)>,
+    pub(crate) depth: usize,
+    pub(crate) parts: Vec<Points>,
     pub(crate) room: Room,
+    pub(crate) most: usize,
     pub(crate) stops: Vec<Stop>,
 }
 
@@ -177,6 +178,35 @@ fn new_bounds(
     Ok(Some(bounds))
 }
 
+/// Bounds that are in fewer loops than so many: they themselves, or those of what misses a row by one alone.
+fn thin_bounds(
+    alloc: Global,
+    facts: &Facts,
+    depth: usize,
+    bounds: Vec<(Affine, Affine)>,
+    outside: Option<&Affine>,
+) -> Result<Option<Vec<(Affine, Affine)>>, Memory> {
+    if wide_loops(alloc, bounds.as_slice())? < depth {
+        return Ok(Some(bounds));
+    }
+    let Some(row) = outside else {
+        return Ok(None);
+    };
+    let mut edge = row.copied(alloc)?;
+    edge.add_number(1);
+    let Some(bounds) = tightened(alloc, facts.params, bounds.as_slice(), &edge)? else {
+        return Ok(None);
+    };
+    let Some(bounds) = ranged(alloc, facts, bounds)? else {
+        return Ok(None);
+    };
+    if wide_loops(alloc, bounds.as_slice())? < depth {
+        Ok(Some(bounds))
+    } else {
+        Ok(None)
+    }
+}
+
 /// A nest that holds the source, with what shows it: one that is credited already, or a new one.
 fn credited(
     alloc: Global,
@@ -191,13 +221,16 @@ fn credited(
     if known.is_some() {
         return Ok(known);
     }
+    let number = work.stops.len();
+    if number >= work.most {
+        return Ok(None);
+    }
     let Some(bounds) = new_bounds(alloc, at, work.room, source, outside)? else {
         return Ok(None);
     };
-    let number = work.stops.len();
-    if wide_loops(alloc, bounds.as_slice())? >= work.bounds.len() || number >= limits::CREDITS {
+    let Some(bounds) = thin_bounds(alloc, facts, work.depth, bounds, outside)? else {
         return Ok(None);
-    }
+    };
     let Some(rows) = held(alloc, facts, given, bounds.as_slice(), source.point)? else {
         return Ok(None);
     };
@@ -206,34 +239,52 @@ fn credited(
     Ok(Some((narrow(number), rows)))
 }
 
-/// Where a source lies, by the row that its walks go on from.
+/// Where a source lies, by the rows that its walks go on from.
 enum Side {
     /// Walks go on, as the multipliers show.
     Inside(Vec<Multipliers>),
-    /// They don't.
-    Outside,
-    /// It isn't shown on which side of the row it is.
+    /// They don't, since it misses the row with this number.
+    Outside(usize),
+    /// It isn't shown on which side of a row it is.
     Either(Affine),
 }
 
-/// On which side of a row a source lies.
+/// On which side of rows a source lies.
 fn side_of(
     alloc: Global,
     facts: &Facts,
     given: &Rows,
-    row: &Affine,
+    rows: &[Affine],
     point: &[Affine],
 ) -> Result<Side, Memory> {
-    let inner = row.put(alloc, facts.params, point)?;
-    let opposite = vec![in alloc; inner.negated(alloc)?]?;
-    let goals = vec![in alloc; inner.copied(alloc)?]?;
-    if let Some(rows) = all_shown(alloc, given, goals.as_slice())? {
-        return Ok(Side::Inside(rows));
+    let mut shown = Vec::new(alloc);
+    for (number, row) in rows.iter().enumerate() {
+        let inner = row.put(alloc, facts.params, point)?;
+        let opposite = vec![in alloc; inner.negated(alloc)?]?;
+        let goals = vec![in alloc; inner.copied(alloc)?]?;
+        match all_shown(alloc, given, goals.as_slice())? {
+            Some(more) => shown = joined_shown(shown, more)?,
+            None => {
+                return if all_shown(alloc, given, opposite.as_slice())?.is_some() {
+                    Ok(Side::Outside(number))
+                } else {
+                    Ok(Side::Either(inner))
+                };
+            }
+        }
     }
-    if all_shown(alloc, given, opposite.as_slice())?.is_some() {
-        return Ok(Side::Outside);
+    Ok(Side::Inside(shown))
+}
+
+/// Multipliers, and more.
+fn joined_shown(
+    mut shown: Vec<Multipliers>,
+    more: Vec<Multipliers>,
+) -> Result<Vec<Multipliers>, Memory> {
+    for one in more {
+        shown.push(one)?;
     }
-    Ok(Side::Either(inner))
+    Ok(shown)
 }
 
 /// The entry at a source whose label is shown: a walk goes on where its region is, and else stops in a credited nest.
@@ -249,14 +300,11 @@ fn labelled_entry(
     let taken = words_at(alloc, false, source.statement, given, source.point)?;
     let mut outside = None;
     if let Some(step) = at.draft.step_of(source.statement) {
-        let Some(row) = &step.row else {
-            let rows = Vec::new(alloc);
-            return Ok(Entry::Made(Leaf::Go { rows, label }, taken));
-        };
-        match side_of(alloc, facts, given, row, source.point)? {
+        let own = step.rows.as_slice();
+        match side_of(alloc, facts, given, own, source.point)? {
             Side::Inside(rows) => return Ok(Entry::Made(Leaf::Go { rows, label }, taken)),
             Side::Either(row) => return Ok(Entry::Split(row)),
-            Side::Outside => outside = Some(row),
+            Side::Outside(number) => outside = own.get(number),
         }
     }
     match credited(alloc, at, work, given, source, outside)? {

@@ -1,5 +1,6 @@
 //! Groups of families: families that aren't shown to have no word in common are in one.
 
+use crate::pairs::Pairs;
 use affine_facts::facts::Facts;
 use affine_facts::numbers::narrow;
 use affine_facts::words::{Words, two_apart};
@@ -20,16 +21,23 @@ fn group_of(groups: &[u8], family: usize) -> u8 {
     groups.get(family).copied().unwrap_or(0)
 }
 
-/// The groups of so many families, of which it is said row by row which two are apart: a number for each family.
-pub(crate) fn groups_of(alloc: Global, families: usize, apart: &[bool]) -> Result<Vec<u8>, Memory> {
+/// A group for each of so many families.
+fn singles(alloc: Global, families: usize) -> Result<Vec<u8>, Memory> {
     let mut groups = Vec::new(alloc);
     for family in 0..families {
         groups.push(narrow(family))?;
     }
-    for (place, is_apart) in apart.iter().enumerate() {
+    Ok(groups)
+}
+
+/// The groups of families, of which it is said which two are apart: a number for each family.
+pub(crate) fn groups_of(alloc: Global, apart: &Pairs) -> Result<Vec<u8>, Memory> {
+    let families = apart.count();
+    let mut groups = singles(alloc, families)?;
+    for place in 0..families.saturating_mul(families) {
         let first = place.checked_div(families).unwrap_or(0);
         let second = place.checked_rem(families).unwrap_or(0);
-        if first < second && !is_apart {
+        if first < second && !apart.is_apart(first, second) {
             let kept = group_of(groups.as_slice(), first);
             let other = group_of(groups.as_slice(), second);
             merge(groups.as_mut_slice(), kept, other);
@@ -64,22 +72,25 @@ pub(crate) fn are_several(groups: &[u8]) -> bool {
     groups.iter().any(|group| *group != group_of(groups, 0))
 }
 
-/// Which two families are apart, by their words: row by row, a row for each family.
+/// Which two families are apart, by their words.
 pub(crate) fn apart_by_words(
     alloc: Global,
     facts: &Facts,
     words: &[Vec<Words>],
-) -> Result<Vec<bool>, Memory> {
-    let mut all = Vec::new(alloc);
-    for (place, first) in words.iter().enumerate() {
-        for (later, second) in words.iter().enumerate() {
-            let none = Vec::new(alloc);
-            let is_apart = place < later
-                && two_apart(alloc, facts, first.as_slice(), second.as_slice(), none)?.is_some();
-            all.push(is_apart)?;
-        }
+) -> Result<Pairs, Memory> {
+    let mut pairs = Pairs::new(words.len(), Vec::new(alloc));
+    for place in 0..words.len().saturating_mul(words.len()) {
+        let first = place.checked_div(words.len()).unwrap_or(0);
+        let second = place.checked_rem(words.len()).unwrap_or(0);
+        pairs.push(match (words.get(first), words.get(second)) {
+            (Some(one), Some(other)) if first < second => {
+                let none = Vec::new(alloc);
+                two_apart(alloc, facts, one.as_slice(), other.as_slice(), none)?.is_some()
+            }
+            _ => false,
+        })?;
     }
-    Ok(all)
+    Ok(pairs)
 }
 
 /// Multipliers which show that no two families of different groups have a word in common.

@@ -1,36 +1,21 @@
-//! Joint terms of one statement, made of its families in groups.
+//! Joint terms, made of families in groups.
 
-use crate::coordinates::Coordinates;
-use crate::walks::Shown;
-use affine_facts::affine::Affine;
-use affine_facts::facts::Facts;
-use affine_facts::shown::all_forms;
+use crate::walks::{Shown, ShownStart, ShownWay};
+use affine_facts::numbers::narrow;
 use affine_form::{Form, Memory};
 use joint_partition::{JointFamily, Labeling, Start, Way};
-use reuse_paths::FamilyNode;
+use reuse_paths::{FamilyNode, Region};
 use std::alloc::Global;
 
-/// The map to coordinates of so many loops, as forms over the parameters and the loop values.
-pub(crate) fn image(
-    alloc: Global,
-    facts: &Facts,
-    kind: Coordinates,
-    depth: usize,
-) -> Result<Option<Vec<Form>>, Memory> {
-    let mut rows: Vec<Affine> = Vec::new(alloc);
-    for row in 0..depth {
-        rows.push(kind.form(alloc, facts.params, depth, row)?)?;
-    }
-    let vars = facts.params.saturating_add(depth);
-    all_forms(alloc, vars, rows.as_slice())
+/// The labels and the regions of nodes, each in a list.
+#[derive(Drop)]
+struct Divided {
+    labels: Vec<Option<Box<Vec<Form>>>>,
+    regions: Vec<Option<Box<Region>>>,
 }
 
-/// The labels and the regions of nodes, each in a list.
-fn apart(
-    alloc: Global,
-    nodes: Vec<Option<FamilyNode>>,
-    inputs: Vec<Option<Box<Vec<Form>>>>,
-) -> Result<(Labeling, Way), Memory> {
+/// The labels and the regions of nodes.
+fn labels_and_regions(alloc: Global, nodes: Vec<Option<FamilyNode>>) -> Result<Divided, Memory> {
     let mut labels = Vec::new(alloc);
     let mut regions = Vec::new(alloc);
     for node in nodes {
@@ -45,36 +30,64 @@ fn apart(
             }
         }
     }
-    let labeling = Labeling {
-        nodes: labels,
-        inputs,
-    };
-    Ok((labeling, Way { labels: 0, regions }))
+    Ok(Divided { labels, regions })
 }
 
-/// The family of a group, with one labeling and one way.
+/// The labelings and the ways of a family. The first way of a labeling has its labels.
+fn labelings_and_ways(
+    alloc: Global,
+    shown: Vec<ShownWay>,
+) -> Result<(Vec<Labeling>, Vec<Way>), Memory> {
+    let mut labelings = Vec::new(alloc);
+    let mut ways = Vec::new(alloc);
+    for ShownWay {
+        labeling,
+        nodes,
+        inputs,
+    } in shown {
+        let Divided { labels, regions } = labels_and_regions(alloc, nodes)?;
+        if labeling >= labelings.len() {
+            labelings.push(Labeling {
+                nodes: labels,
+                inputs,
+            })?;
+        }
+        ways.push(Way {
+            labels: narrow(labeling),
+            regions,
+        })?;
+    }
+    Ok((labelings, ways))
+}
+
+/// Starts as joint terms have them.
+fn all_starts(alloc: Global, shown: Vec<ShownStart>) -> Result<Vec<Start>, Memory> {
+    let mut all = Vec::new(alloc);
+    for ShownStart { way, tree } in shown {
+        let way = narrow(way);
+        all.push(Start { way, tree })?;
+    }
+    Ok(all)
+}
+
+/// The family of a group.
 fn joint_family(alloc: Global, shown: Shown, group: u8) -> Result<JointFamily, Memory> {
     let Shown {
         set,
         weight,
-        start,
-        nodes,
-        inputs,
+        starts,
+        ways,
         ..
     } = shown;
-    let (labeling, way) = apart(alloc, nodes, inputs)?;
-    let start = Start {
-        way: 0,
-        tree: start,
-    };
+    let (labels, ways) = labelings_and_ways(alloc, ways)?;
     Ok(JointFamily {
         group,
         scale: 1,
         set,
         weight,
-        labels: vec![in alloc; labeling]?,
-        ways: vec![in alloc; way]?,
-        starts: vec![in alloc; start]?,
+        labels,
+        ways,
+        starts: all_starts(alloc, starts)?,
     })
 }
 
@@ -89,85 +102,4 @@ pub(crate) fn joint_families(
         all.push(joint_family(alloc, shown, *group)?)?;
     }
     Ok(all)
-}
-
-type Labels = Vec<Option<Box<Vec<Form>>>>;
-
-/// The labels of a list, and of another where it has none.
-fn either(alloc: Global, first: Labels, second: Labels) -> Result<Labels, Memory> {
-    let mut all = Vec::new(alloc);
-    for (one, other) in first.into_iter().zip(second) {
-        all.push(match one {
-            Some(label) => Some(label),
-            None => other,
-        })?;
-    }
-    Ok(all)
-}
-
-/// How a family's walks from the points and from those turned stand to each other: whether they have one labeling, and whether they
-/// go on in one way.
-#[derive(Clone, Copy)]
-pub(crate) struct Twins {
-    pub(crate) one_labeling: bool,
-    pub(crate) one_way: bool,
-}
-
-/// The labelings of a family and of that turned.
-fn labelings(
-    alloc: Global,
-    twins: Twins,
-    first: Labeling,
-    second: Labeling,
-) -> Result<Vec<Labeling>, Memory> {
-    if !twins.one_labeling {
-        return Ok(vec![in alloc; first, second]?);
-    }
-    let labeling = Labeling {
-        nodes: either(alloc, first.nodes, second.nodes)?,
-        inputs: either(alloc, first.inputs, second.inputs)?,
-    };
-    Ok(vec![in alloc; labeling]?)
-}
-
-/// The ways of a family and of that turned.
-fn ways(alloc: Global, twins: Twins, first: Way, second: Way) -> Result<Vec<Way>, Memory> {
-    if twins.one_labeling && twins.one_way {
-        return Ok(vec![in alloc; first]?);
-    }
-    let other = Way {
-        labels: if twins.one_labeling { 0 } else { 1 },
-        regions: second.regions,
-    };
-    Ok(vec![in alloc; first, other]?)
-}
-
-/// The family of a group, from the points and from those turned.
-pub(crate) fn twin_family(
-    alloc: Global,
-    twins: Twins,
-    first: Shown,
-    second: Shown,
-    group: u8,
-) -> Result<JointFamily, Memory> {
-    let (labels, way) = apart(alloc, first.nodes, first.inputs)?;
-    let (other_labels, other_way) = apart(alloc, second.nodes, second.inputs)?;
-    let ways = ways(alloc, twins, way, other_way)?;
-    let start = Start {
-        way: 0,
-        tree: first.start,
-    };
-    let other = Start {
-        way: if ways.len() > 1 { 1 } else { 0 },
-        tree: second.start,
-    };
-    Ok(JointFamily {
-        group,
-        scale: 1,
-        set: first.set,
-        weight: first.weight,
-        labels: labelings(alloc, twins, labels, other_labels)?,
-        ways,
-        starts: vec![in alloc; start, other]?,
-    })
 }

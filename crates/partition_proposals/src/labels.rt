@@ -1,10 +1,10 @@
 //! Labels of words along walks back, thought out without multipliers.
 
-use crate::drafts::{Choice, Draft, Way, copied, copied_label, empty_draft};
+use crate::drafts::{Choice, Draft, Way, copied, copied_label, empty_draft, seeded};
 use crate::searching::searched;
 use affine_facts::affine::{Affine, copies};
 use affine_facts::combined::all_combined;
-use affine_facts::facts::{Access, Facts, Origin, ReadFacts, TreeLeaf};
+use affine_facts::facts::{Access, Facts, Origin, ReadFacts, StatementFacts, TreeLeaf};
 use affine_facts::numbers::short;
 use affine_facts::shown::{all_put, are_same};
 use affine_form::Memory;
@@ -182,7 +182,7 @@ pub(crate) fn stepped_by(
     let mut tried = copied(alloc, draft)?;
     match labelled(alloc, facts, &mut tried, reader, is_strict)? {
         Some(fresh) => {
-            tried.put_step(statement, number, None);
+            tried.put_step(statement, number, Vec::new(alloc));
             Ok(Some((tried, fresh)))
         }
         None => Ok(None),
@@ -229,8 +229,56 @@ fn best_step(
     Ok(None)
 }
 
-/// A family of a statement's read, with these coordinates and this label. Where walks are to go on, they do so from each
-/// statement that some read of it lets them.
+/// Whether a draft knows the label of a source of a read.
+pub(crate) fn is_known(draft: &Draft, read: &ReadFacts) -> bool {
+    read.leaves
+        .as_slice()
+        .iter()
+        .any(|leaf| match &leaf.origin {
+            Origin::Instance { statement, .. } => draft.label_of(*statement).is_some(),
+            Origin::Input => draft.cell_label(read.access.array).is_some(),
+            Origin::Unknown => false,
+        })
+}
+
+/// Whether the cells of a read have the label of a start, where a draft knows theirs.
+pub(crate) fn keeps_cells(
+    alloc: Global,
+    facts: &Facts,
+    draft: &Draft,
+    label: &[Affine],
+    bounds: &[(Affine, Affine)],
+    read: &ReadFacts,
+) -> Result<bool, Memory> {
+    let has_inputs = read
+        .leaves
+        .as_slice()
+        .iter()
+        .any(|leaf| matches!(leaf.origin, Origin::Input));
+    let Some(known) = draft.cell_label(read.access.array) else {
+        return Ok(true);
+    };
+    let subs = read.access.subs.as_slice();
+    match all_combined(alloc, facts.params, label, subs, Some(bounds))? {
+        Some(cells) => Ok(!has_inputs || are_same(cells.as_slice(), known)),
+        None => Ok(!has_inputs),
+    }
+}
+
+/// Whether an earlier read of a statement is of the same word.
+pub(crate) fn is_repeated(own: &StatementFacts, number: usize) -> bool {
+    let reads = own.reads.as_slice();
+    let Some(read) = reads.get(number) else {
+        return false;
+    };
+    let subs = read.access.subs.as_slice();
+    reads.iter().take(number).any(|other| {
+        other.access.array == read.access.array && are_same(other.access.subs.as_slice(), subs)
+    })
+}
+
+/// A family of a statement's read, with these coordinates and this label, which begins with what another one knows of words, if there
+/// is one. Where walks are to go on, they do so from each statement that some read of it lets them.
 pub(crate) fn drafted(
     alloc: Global,
     facts: &Facts,
@@ -240,6 +288,7 @@ pub(crate) fn drafted(
     label: &[Affine],
     way: Way,
     choice: Choice,
+    seed: Option<&Draft>,
 ) -> Result<Option<Draft>, Memory> {
     let Some(own_facts) = facts.statement(statement) else {
         return Ok(None);
@@ -254,7 +303,8 @@ pub(crate) fn drafted(
     };
     let set = Vec::from_slice(alloc, set)?;
     let own = copies(alloc, label)?;
-    let mut draft = empty_draft(alloc, facts, way, choice, read, set, own)?;
+    let empty = empty_draft(alloc, facts, way, choice, statement, read, set, own)?;
+    let mut draft = seeded(alloc, empty, seed)?;
     let is_strict = choice == Choice::Strict;
     let Some(waiting) = labelled(alloc, facts, &mut draft, reader, is_strict)? else {
         return Ok(None);

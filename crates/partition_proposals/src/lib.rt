@@ -3,20 +3,30 @@
 
 mod apart;
 mod candidates;
+mod choices;
 mod coordinates;
+mod cutting;
 mod drafts;
 mod entries;
 mod families;
+mod gains;
 mod groups;
+mod growing;
 mod joints;
 mod labels;
-mod mirrored;
-mod mirrors;
+mod making;
+mod merged;
 mod nodes;
+mod pairs;
+mod placing;
+mod points;
+mod schemes;
 mod searching;
+mod singles;
+mod strength;
 mod taking;
 mod terms;
 mod walks;
 
 pub use candidates::{Candidate, candidates_of};
-pub use terms::StretchTerm;
+pub use strength::StretchTerm;

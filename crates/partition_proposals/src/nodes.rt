@@ -37,12 +37,9 @@ fn region_of(
     read: &ReadFacts,
     step: &Step,
 ) -> Result<Found, Memory> {
-    let mut more = Vec::new(alloc);
-    if let Some(row) = &step.row {
-        more.push(row.copied(alloc)?)?;
-    }
-    let given = instance_rows(alloc, at.facts, source, more.as_slice())?;
-    let Some(rows) = all_forms(alloc, given.vars, more.as_slice())? else {
+    let more = step.rows.as_slice();
+    let given = instance_rows(alloc, at.facts, source, more)?;
+    let Some(rows) = all_forms(alloc, given.vars, more)? else {
         return Ok(Found::Fails);
     };
     match walk_by(alloc, at, work, &given, step.read, read)? {
@@ -50,7 +47,7 @@ fn region_of(
             let region = Box::new(alloc, Region { rows, tree })?;
             Ok(Found::Made(region, all))
         }
-        Walked::Restrict(row) if step.row.is_none() => Ok(Found::Restrict(row)),
+        Walked::Restrict(row) if step.rows.is_empty() => Ok(Found::Restrict(row)),
         _ => Ok(Found::Fails),
     }
 }

@@ -1,7 +1,7 @@
 //! Walks that go on from all statements, looked for by trying reads in turn.
 
 use crate::drafts::Draft;
-use crate::labels::{rank, stepped_by};
+use crate::labels::{is_repeated, rank, stepped_by};
 use affine_facts::facts::Facts;
 use affine_facts::numbers::short;
 use affine_form::Memory;
@@ -43,7 +43,7 @@ fn with_reads(
         return Ok(open);
     };
     for (number, read) in source.reads.as_slice().iter().enumerate().rev() {
-        if rank(facts, statement, &read.access) == wanted {
+        if rank(facts, statement, &read.access) == wanted && !is_repeated(source, number) {
             let found = stepped_by(alloc, facts, draft, statement, short(number), false)?;
             if let Some((with_step, fresh)) = found {
                 open.push(opened(alloc, with_step, waiting, fresh)?)?;

@@ -63,7 +63,44 @@ fn taken_by(
     Ok(Taken::Made(leaves, all))
 }
 
-/// One side of a walk that tests a row.
+/// A take of a read.
+fn take_of(number: u16, leaves: Vec<Leaf>, all: Vec<Words>) -> Walked {
+    Walked::Made(
+        Walk::Take {
+            read: number,
+            leaves,
+        },
+        all,
+    )
+}
+
+/// The same rows, and one more.
+fn given_more(alloc: Global, given: &Rows, row: Affine) -> Result<Rows, Memory> {
+    Ok(Rows {
+        vars: given.vars,
+        rows: with_row(alloc, given.rows.as_slice(), row)?,
+    })
+}
+
+/// A walk that takes a read under a row.
+fn taken_on(
+    alloc: Global,
+    at: &At,
+    work: &mut Work,
+    given: &Rows,
+    row: Affine,
+    number: u16,
+    read: &ReadFacts,
+) -> Result<Walked, Memory> {
+    let given = given_more(alloc, given, row)?;
+    match taken_by(alloc, at, work, &given, read)? {
+        Taken::Made(leaves, all) => Ok(take_of(number, leaves, all)),
+        Taken::Restrict(row) => Ok(Walked::Restrict(row)),
+        _ => Ok(Walked::Fails),
+    }
+}
+
+/// A walk that takes a read under a row, or tests a row more before.
 fn side(
     alloc: Global,
     at: &At,
@@ -73,38 +110,26 @@ fn side(
     number: u16,
     read: &ReadFacts,
 ) -> Result<Walked, Memory> {
-    let given = Rows {
-        vars: given.vars,
-        rows: with_row(alloc, given.rows.as_slice(), row)?,
-    };
+    let given = given_more(alloc, given, row)?;
     match taken_by(alloc, at, work, &given, read)? {
-        Taken::Made(leaves, all) => Ok(Walked::Made(
-            Walk::Take {
-                read: number,
-                leaves,
-            },
-            all,
-        )),
-        _ => Ok(Walked::Fails),
+        Taken::Made(leaves, all) => Ok(take_of(number, leaves, all)),
+        Taken::Split(row) => tested_last(alloc, at, work, &given, row, number, read),
+        Taken::Restrict(row) => Ok(Walked::Restrict(row)),
+        Taken::Fails => Ok(Walked::Fails),
     }
 }
 
-/// A walk that tests a row before it takes a read.
-fn tested(
+/// A walk that tests a row, of its two sides; or a row without which one can't be claimed.
+fn test_of(
     alloc: Global,
-    at: &At,
-    work: &mut Work,
     given: &Rows,
-    row: Affine,
-    number: u16,
-    read: &ReadFacts,
+    row: &Affine,
+    yes: Walked,
+    no: Walked,
 ) -> Result<Walked, Memory> {
     let Some(form) = row.form(alloc, given.vars.min(limits::VARIABLES))? else {
         return Ok(Walked::Fails);
     };
-    let opposite = row.negated(alloc)?;
-    let yes = side(alloc, at, work, given, row, number, read)?;
-    let no = side(alloc, at, work, given, opposite, number, read)?;
     match (yes, no) {
         (Walked::Made(yes, some), Walked::Made(no, more)) => {
             let test = Walk::Test {
@@ -114,8 +139,43 @@ fn tested(
             };
             Ok(Walked::Made(test, with_words(some, more)?))
         }
+        (Walked::Restrict(row), _) | (_, Walked::Restrict(row)) => Ok(Walked::Restrict(row)),
         _ => Ok(Walked::Fails),
     }
+}
+
+/// A walk that tests a row before it takes a read, and no other row.
+fn tested_last(
+    alloc: Global,
+    at: &At,
+    work: &mut Work,
+    given: &Rows,
+    row: Affine,
+    number: u16,
+    read: &ReadFacts,
+) -> Result<Walked, Memory> {
+    let own = row.copied(alloc)?;
+    let opposite = row.negated(alloc)?;
+    let yes = taken_on(alloc, at, work, given, own, number, read)?;
+    let no = taken_on(alloc, at, work, given, opposite, number, read)?;
+    test_of(alloc, given, &row, yes, no)
+}
+
+/// A walk that tests a row before it takes a read, or tests another one.
+fn tested(
+    alloc: Global,
+    at: &At,
+    work: &mut Work,
+    given: &Rows,
+    row: Affine,
+    number: u16,
+    read: &ReadFacts,
+) -> Result<Walked, Memory> {
+    let own = row.copied(alloc)?;
+    let opposite = row.negated(alloc)?;
+    let yes = side(alloc, at, work, given, own, number, read)?;
+    let no = side(alloc, at, work, given, opposite, number, read)?;
+    test_of(alloc, given, &row, yes, no)
 }
 
 /// A walk from a reader by a read, and if need be by a test of where its source is.
@@ -128,13 +188,7 @@ pub(crate) fn walk_by(
     read: &ReadFacts,
 ) -> Result<Walked, Memory> {
     match taken_by(alloc, at, work, given, read)? {
-        Taken::Made(leaves, all) => {
-            let take = Walk::Take {
-                read: number,
-                leaves,
-            };
-            Ok(Walked::Made(take, all))
-        }
+        Taken::Made(leaves, all) => Ok(take_of(number, leaves, all)),
         Taken::Restrict(row) => Ok(Walked::Restrict(row)),
         Taken::Fails => Ok(Walked::Fails),
         Taken::Split(row) => tested(alloc, at, work, given, row, number, read),
