@@ -1,7 +1,8 @@
 -- Branches that are proposed.
-use Rattle.std.specs.Prelude.{◌≡◌, ◌≤◌, ⊤, List, length, Option, None, Some}
+use Rattle.std.specs.Prelude.{◌≡◌, ◌≤◌, ⊤, ℕ, List, length, Option, None, Some}
 use Rattle.std.specs.List.{AllByRecursion}
-use Rattle.k_partition.specs.declared.term.Partition.{Partition}
+use Rattle.joint_partition.specs.JointLoads.{weight_of as joint_weight}
+use Rattle.joint_partition.specs.View.{joint_of}
 use Rattle.k_partition.specs.TermLoads.{weight_of}
 use Rattle.k_partition.specs.View.{partition_of}
 use Rattle.iolb_check.specs.Limits.{IsSmallBranch}
@@ -10,17 +11,17 @@ use Rattle.iolb_check.specs.declared.term.Term.{Term}
 use Rattle.iolb_check.specs.declared.term.Term.TheVariants as terms
 use Rattle.projective_bounds.specs.Whole.{stretch_for}
 
--- the stretches of a partition term are those which make its bound strongest for its exponent
-abbrev pub HasBestStretches : Partition → Type 0
-HasBestStretches partition = (partition.a ≡ stretch_for partition.q (weight_of (partition_of partition))) × (partition.b ≡ 0)
+-- the stretches of a term whose families weigh so much are those which make its bound strongest for its exponent
+abbrev pub AreBestStretches : ℕ → ℕ → ℕ → ℕ → Type 0
+AreBestStretches q weight a b = (a ≡ stretch_for q weight) × (b ≡ 0)
 
 abbrev pub IsAsProposed : Term → Type 0
 IsAsProposed (terms.Cold cold) = ⊤
-IsAsProposed (terms.Partition partition) = HasBestStretches partition
+IsAsProposed (terms.Partition partition) = AreBestStretches partition.q (weight_of (partition_of partition)) partition.a partition.b
 IsAsProposed (terms.Wavefront front) = ⊤
-IsAsProposed (terms.Joint joint) = ⊤
+IsAsProposed (terms.Joint joint) = AreBestStretches joint.q (joint_weight (joint_of joint)) joint.a joint.b
 
--- A branch that is proposed has a term, is within the limits of branches, and its partition terms have such stretches.
+-- A branch that is proposed has a term, is within the limits of branches, and its partition and joint terms have such stretches.
 pub record IsProposal (branch : Branch) : Type 0 where
   pub some : 1 ≤ length branch.terms.items
   pub small : IsSmallBranch branch

@@ -1,17 +1,25 @@
 //! Branches that are proposed.
 
-ghost use Rattle.std.specs.Prelude.{◌≡◌, IfOk, IfSome, IsTrue};
+ghost use Rattle.std.specs.Prelude.{◌≡◌, ◌≤◌, IfOk, IfSome, IsTrue, sum_by};
 ghost use Rattle.std.specs.List.{AllByRecursion};
 ghost use Rattle.affine_program.specs.Parts.{meaning};
 ghost use Rattle.iolb_check.specs.Limits.{IsSmallBranch, IsSmallPartition, IsSmallTerm};
+ghost use Rattle.joint_partition.specs.JointLoads.{weight_of as weight_of_joint};
+ghost use Rattle.joint_partition.specs.Limits.{IsSmallJoint};
+ghost use Rattle.joint_partition.specs.View.{joint_of};
+ghost use Rattle.joint_partition.specs.declared.limits.TheConstants.{JOINT_WEIGHTS};
+ghost use Rattle.joint_partition.specs.declared.term.JointFamily.{JointFamily as family};
+ghost use Rattle.k_partition.specs.TermLoads.{weight_of as weight_of_partition};
+ghost use Rattle.k_partition.specs.View.{partition_of};
 ghost use Rattle.find_terms.specs.Openings.{FindsOpening};
-ghost use Rattle.find_terms.specs.Proposed.{HasBestStretches, IsAsProposed, IsProposal, IsSmallOpening};
+ghost use Rattle.find_terms.specs.Proposed.{AreBestStretches, IsAsProposed, IsProposal, IsSmallOpening};
 
 use crate::gathering::proposals;
 use crate::openings::opening;
 use affine_form::Memory;
 use affine_program::Program;
 use iolb_check::{Branch, Certificate, Term};
+use joint_partition::{Joint, JointFamily};
 use k_partition::{Partition, weight_of};
 use projective_bounds::stretch_for;
 use reuse_paths::Quasts;
@@ -28,8 +36,8 @@ pub struct ProposedBranches {
 }
 
 /// Branches that may stand in a certificate over these source trees: the opening branch first, as `opening` answers it, and
-/// then proposals. Each is within the limits of branches; a partition term that is proposed has no events beside those for
-/// its red words, and as many for each of these as make its bound strongest for its exponent. Nothing else is promised of
+/// then proposals. Each is within the limits of branches; a partition or joint term that is proposed has no events beside those
+/// for its red words, and as many for each of these as make its bound strongest for its exponent. Nothing else is promised of
 /// proposals.
 ///
 /// # Errors
@@ -103,26 +111,60 @@ fn within_limits(alloc: Global, branch: Branch) -> Result<Option<Branch>, Memory
     Ok(branches.pop())
 }
 
-/// Whether a partition term has no events beside those for its red words, and as many for each of these as make its bound
-/// strongest for its exponent.
-fn has_best_stretches(term: &Partition) -> bool
-    requires { IsSmallPartition term.now }
-    ensures { IsTrue result → HasBestStretches term.now }
+/// Whether a term whose families weigh so much has no events beside those for its red words, and as many for each of these as
+/// make its bound strongest for its exponent.
+fn are_best_stretches(q: u8, weight: u8, a: u8, b: u32) -> bool
+    ensures { IsTrue result → AreBestStretches q weight a b }
 {
-    let total = weight_of(term.families.as_slice());
-    term.q <= total && term.a == stretch_for(term.q, total) && term.b == 0
+    q <= weight && a == stretch_for(q, weight) && b == 0
 }
 
-/// Whether the partition terms among these are such.
+/// Whether a partition term has such stretches.
+fn is_best_partition(term: &Partition) -> bool
+    requires { IsSmallPartition term.now }
+    ensures { IsTrue result → AreBestStretches term.now.q (weight_of_partition (partition_of term.now)) term.now.a term.now.b }
+{
+    are_best_stretches(term.q, weight_of(term.families.as_slice()), term.a, term.b)
+}
+
+/// The sum of the weights of a joint term's families.
+fn joint_weight(families: &[JointFamily]) -> u8
+    requires { sum_by (λ (f : family). f.weight) families.now ≤ JOINT_WEIGHTS }
+    ensures { result ≡ sum_by (λ (f : family). f.weight) families.now }
+{
+    let mut sum = 0;
+    for family in families {
+        sum += family.weight;
+    }
+    sum
+}
+
+/// Whether a joint term has such stretches.
+fn is_best_joint(term: &Joint) -> bool
+    requires { IsSmallJoint term.now }
+    ensures { IsTrue result → AreBestStretches term.now.q (weight_of_joint (joint_of term.now)) term.now.a term.now.b }
+{
+    are_best_stretches(
+        term.q,
+        joint_weight(term.families.as_slice()),
+        term.a,
+        term.b,
+    )
+}
+
+/// Whether the partition and joint terms among these have such stretches.
 fn are_as_proposed(terms: &[Term]) -> bool
     requires { AllByRecursion IsSmallTerm terms.now }
     ensures { IsTrue result → AllByRecursion IsAsProposed terms.now }
 {
     for term in terms {
-        if let Term::Partition(partition) = term {
-            if !has_best_stretches(partition) {
-                return false;
-            }
+        let is_best = match term {
+            Term::Partition(partition) => is_best_partition(partition),
+            Term::Joint(joint) => is_best_joint(joint),
+            Term::Cold(_) | Term::Wavefront(_) => true,
+        };
+        if !is_best {
+            return false;
         }
     }
     true
