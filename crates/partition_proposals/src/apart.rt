@@ -8,7 +8,7 @@ use crate::pairs::Pairs;
 use crate::points::Points;
 use crate::schemes::{Plan, Scheme};
 use affine_facts::facts::Facts;
-use affine_facts::words::{Words, joined, two_apart};
+use affine_facts::words::{Words, are_none_of, joined, two_apart};
 use affine_form::Memory;
 use joint_partition::limits::JOINT_CREDITS;
 use std::alloc::Global;
@@ -167,6 +167,28 @@ impl Tried {
             pairs.push(self.apart.is_apart(one, other))?;
         }
         Ok(pairs)
+    }
+
+    /// Of each way of each family, whether it can be made by itself of words none of which is taken.
+    pub(crate) fn free_ways(
+        &self,
+        alloc: Global,
+        facts: &Facts,
+        taken: &[Vec<Words>],
+    ) -> Result<Vec<bool>, Memory> {
+        let mut all = Vec::new(alloc);
+        for words in self.words.as_slice() {
+            all.push(match words {
+                Some(words) => are_none_of(alloc, facts, words.as_slice(), taken)?,
+                None => false,
+            })?;
+        }
+        Ok(all)
+    }
+
+    /// Whether each family's way in a code is one of these.
+    pub(crate) fn are_among(&self, code: u32, ways: &[bool]) -> bool {
+        (0..self.families()).all(|family| matches!(ways.get(place_of(code, family)), Some(true)))
     }
 
     /// Whether each family can be made by its way in a code.

@@ -6,7 +6,7 @@ use crate::growing::{Stronger, grown};
 use crate::schemes::{Scheme, scheme_of};
 use crate::strength::{StretchTerm, strength};
 use crate::terms::{single_term, term_grouped};
-use affine_facts::facts::Facts;
+use affine_facts::facts::{Facts, StatementFacts};
 use affine_facts::numbers::short;
 use affine_facts::words::{Proposed, Words, are_none_of};
 use affine_form::Memory;
@@ -174,18 +174,32 @@ fn put(all: Vec<Candidate>, candidate: Option<Candidate>) -> Result<Vec<Candidat
     }
 }
 
-/// Whether a statement behind another one is in as many loops.
+/// Whether a statement reads cells of an array.
+fn reads_of(own: &StatementFacts, array: u16) -> bool {
+    own.reads
+        .as_slice()
+        .iter()
+        .any(|read| read.access.array == array)
+}
+
+/// Whether a statement reads cells of an array that another one reads too, or one of the two reads cells of that which the other writes.
+fn are_related(own: &StatementFacts, other: &StatementFacts) -> bool {
+    let shares = other
+        .reads
+        .as_slice()
+        .iter()
+        .any(|read| reads_of(own, read.access.array));
+    shares || reads_of(own, other.writes.array) || reads_of(other, own.writes.array)
+}
+
+/// Whether a statement behind another one is in as many loops, and has to do with the same arrays.
 fn has_peer(facts: &Facts, statement: u16) -> bool {
     let Some(own) = facts.statement(statement) else {
         return false;
     };
     let behind = usize::from(statement).saturating_add(1);
-    facts
-        .statements
-        .as_slice()
-        .iter()
-        .skip(behind)
-        .any(|other| other.depth() == own.depth())
+    facts.statements.as_slice().iter().skip(behind).any(|other| other.depth() == own.depth()
+        && are_related(own, other))
 }
 
 /// What is proposed for a statement and one behind it over coordinates of statements that take turns, where they gain.

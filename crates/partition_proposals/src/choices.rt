@@ -1,6 +1,6 @@
 //! Families from which a cover of the coordinates of points is chosen.
 
-use crate::drafts::{Choice, Draft, Way};
+use crate::drafts::{Choice, Draft, Request, Way};
 use crate::families::is_made_alone;
 use crate::labels::{drafted, is_repeated};
 use crate::points::Points;
@@ -40,28 +40,48 @@ pub(crate) fn named(
     Ok(set)
 }
 
-/// The family of a read with these coordinates, where it can be made by itself, if this is asked. Where each source of the read can have
-/// the label, no choice that leaves some out is tried, since it would be the same.
+/// What family is looked for: of a statement, with these coordinates and this label of a start; and which loops are to stand in the
+/// subscripts of its read, and whether it has to be one that can be made by itself.
+#[derive(Clone, Copy)]
+pub(crate) struct Search<'a> {
+    pub(crate) statement: u16,
+    pub(crate) set: &'a [u8],
+    pub(crate) label: &'a [Affine],
+    pub(crate) wanted: &'a [u8],
+    pub(crate) is_alone: bool,
+}
+
+impl<'a> Search<'a> {
+    /// What the family is asked to be by a read.
+    fn request(self, read: u16, choice: Choice) -> Request<'a> {
+        Request {
+            statement: self.statement,
+            read,
+            set: self.set,
+            label: self.label,
+            way: Way::Whole,
+            choice,
+        }
+    }
+}
+
+/// The family of a read that is looked for. Where each source of the read can have the label, no choice that leaves some out is tried,
+/// since it would be the same.
 fn draft_of(
     alloc: Global,
     facts: &Facts,
-    statement: u16,
+    search: Search,
     read: u16,
-    set: &[u8],
-    label: &[Affine],
     choice: Choice,
-    is_alone: bool,
 ) -> Result<Option<Draft>, Memory> {
-    let way = Way::Whole;
     if choice == Choice::Loose {
-        let strict = Choice::Strict;
-        if drafted(alloc, facts, statement, read, set, label, way, strict, None)?.is_some() {
+        let strict = search.request(read, Choice::Strict);
+        if drafted(alloc, facts, strict, None)?.is_some() {
             return Ok(None);
         }
     }
-    let found = drafted(alloc, facts, statement, read, set, label, way, choice, None)?;
-    if let Some(draft) = found {
-        if !is_alone || is_made_alone(alloc, facts, &draft)? {
+    if let Some(draft) = drafted(alloc, facts, search.request(read, choice), None)? {
+        if !search.is_alone || is_made_alone(alloc, facts, &draft)? {
             return Ok(Some(draft));
         }
     }
@@ -78,41 +98,25 @@ fn is_used_once(depth: usize, read: &ReadFacts, loops: &[u8]) -> bool {
     inputs && loops.len() == depth
 }
 
-/// The first read of a statement that has a family with these coordinates, among those whose subscripts are in just some loops, or
-/// among the others. A read of words that are used once has none.
+/// The family that is looked for, by the first read that has one, among those whose subscripts are in just the wanted loops, or among the
+/// others. A read of words that are used once has none.
 fn draft_among(
     alloc: Global,
     facts: &Facts,
-    statement: u16,
-    set: &[u8],
-    label: &[Affine],
-    wanted: &[u8],
+    search: Search,
     is_named: bool,
     choice: Choice,
-    is_alone: bool,
 ) -> Result<Option<Draft>, Memory> {
-    let Some(own) = facts.statement(statement) else {
+    let Some(own) = facts.statement(search.statement) else {
         return Ok(None);
     };
+    let depth = own.depth();
     for (number, read) in own.reads.as_slice().iter().enumerate() {
-        let loops = named(
-            alloc,
-            facts.params,
-            own.depth(),
-            read.access.subs.as_slice(),
-        )?;
-        let is_apt = (loops.as_slice() == wanted) == is_named && !is_repeated(own, number);
-        if is_apt && !is_used_once(own.depth(), read, loops.as_slice()) {
-            let found = draft_of(
-                alloc,
-                facts,
-                statement,
-                short(number),
-                set,
-                label,
-                choice,
-                is_alone,
-            )?;
+        let loops = named(alloc, facts.params, depth, read.access.subs.as_slice())?;
+        let loops = loops.as_slice();
+        let is_apt = (loops == search.wanted) == is_named && !is_repeated(own, number);
+        if is_apt && !is_used_once(depth, read, loops) {
+            let found = draft_of(alloc, facts, search, short(number), choice)?;
             if found.is_some() {
                 return Ok(found);
             }
@@ -121,22 +125,16 @@ fn draft_among(
     Ok(None)
 }
 
-/// A family with these coordinates and this label, by one of these choices: of a read whose subscripts are in just the wanted loops,
-/// or of another; one that can be made by itself, if this is asked.
+/// The family that is looked for, by the first of these orders that has one: of a read whose subscripts are in just the wanted loops, or
+/// of another, and by a choice.
 pub(crate) fn draft_for(
     alloc: Global,
     facts: &Facts,
-    statement: u16,
-    set: &[u8],
-    label: &[Affine],
-    wanted: &[u8],
+    search: Search,
     orders: &[(bool, Choice)],
-    is_alone: bool,
 ) -> Result<Option<Draft>, Memory> {
     for (is_named, choice) in orders {
-        let found = draft_among(
-            alloc, facts, statement, set, label, wanted, *is_named, *choice, is_alone,
-        )?;
+        let found = draft_among(alloc, facts, search, *is_named, *choice)?;
         if found.is_some() {
             return Ok(found);
         }
@@ -169,16 +167,14 @@ fn draft_over(
     orders: &[(bool, Choice)],
 ) -> Result<Option<Draft>, Memory> {
     let label = points.label(alloc, set)?;
-    draft_for(
-        alloc,
-        facts,
-        points.statement,
+    let search = Search {
+        statement: points.statement,
         set,
-        label.as_slice(),
-        set,
-        orders,
-        true,
-    )
+        label: label.as_slice(),
+        wanted: set,
+        is_alone: true,
+    };
+    draft_for(alloc, facts, search, orders)
 }
 
 /// The sets of coordinates that may have a family: the loops that stand in a read's subscripts, and all coordinates but one.

@@ -27,6 +27,18 @@ pub(crate) enum Choice {
     Tried,
 }
 
+/// What a family is asked to be: with words of a statement's read, with these coordinates and this label of a start, by walks that go so
+/// far, and on by such reads.
+#[derive(Clone, Copy)]
+pub(crate) struct Request<'a> {
+    pub(crate) statement: u16,
+    pub(crate) read: u16,
+    pub(crate) set: &'a [u8],
+    pub(crate) label: &'a [Affine],
+    pub(crate) way: Way,
+    pub(crate) choice: Choice,
+}
+
 /// How a walk goes on from a statement: by a read, and from the instances that meet rows.
 #[derive(Drop)]
 pub(crate) struct Step {
@@ -64,6 +76,18 @@ impl Draft {
         match self.nodes.as_slice().get(usize::from(statement)) {
             Some(Some(node)) => Some(node),
             _ => None,
+        }
+    }
+
+    /// What it was asked to be, but by walks that go so far.
+    pub(crate) fn request(&self, way: Way) -> Request {
+        Request {
+            statement: self.statement,
+            read: self.read,
+            set: self.set.as_slice(),
+            label: self.label.as_slice(),
+            way,
+            choice: self.choice,
         }
     }
 
@@ -133,16 +157,7 @@ pub(crate) fn kept_within(
 }
 
 /// A family without nodes.
-pub(crate) fn empty_draft(
-    alloc: Global,
-    facts: &Facts,
-    way: Way,
-    choice: Choice,
-    statement: u16,
-    read: u16,
-    set: Vec<u8>,
-    label: Vec<Affine>,
-) -> Result<Draft, Memory> {
+pub(crate) fn empty_draft(alloc: Global, facts: &Facts, request: Request) -> Result<Draft, Memory> {
     let mut nodes = Vec::new(alloc);
     for _statement in facts.statements.as_slice() {
         nodes.push(None)?;
@@ -152,12 +167,12 @@ pub(crate) fn empty_draft(
         cells.push(None)?;
     }
     Ok(Draft {
-        way,
-        choice,
-        statement,
-        read,
-        set,
-        label,
+        way: request.way,
+        choice: request.choice,
+        statement: request.statement,
+        read: request.read,
+        set: Vec::from_slice(alloc, request.set)?,
+        label: copies(alloc, request.label)?,
         seed: None,
         within: Vec::new(alloc),
         nodes,

@@ -121,14 +121,11 @@ fn draft_anew(
     way: Way,
     earlier: &[Draft],
 ) -> Result<Option<Draft>, Memory> {
-    let set = draft.set.as_slice();
-    let label = draft.label.as_slice();
-    let (statement, read, choice) = (draft.statement, draft.read, draft.choice);
     let seed = match draft.seed {
         Some(part) => earlier.get(part),
         None => None,
     };
-    match drafted(alloc, facts, statement, read, set, label, way, choice, seed)? {
+    match drafted(alloc, facts, draft.request(way), seed)? {
         Some(mut made) => {
             made.seed = draft.seed;
             Ok(Some(kept_within(alloc, made, draft.within.as_slice())?))

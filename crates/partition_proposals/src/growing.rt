@@ -1,149 +1,20 @@
 //! Parts that gain: other statements that read the same words, and the instances of one counted again with two loops turned.
 
 use crate::apart::Tried;
-use crate::choices::{BEST, draft_for, named};
 use crate::coordinates::Coordinates;
 use crate::cutting::cut;
-use crate::drafts::{Choice, Draft, Way, all_copied};
+use crate::drafts::{Draft, all_copied};
+use crate::effort::share;
 use crate::gains::{Gain, gained, gained_by, most_gained};
-use crate::labels::{drafted, is_known, is_repeated, keeps_cells};
 use crate::placing::{Placed, placed_parts};
-use crate::points::{Points, points_over};
-use crate::schemes::{Plan, Scheme, longer};
-use affine_facts::affine::Affine;
-use affine_facts::facts::{Facts, StatementFacts};
+use crate::points::points_over;
+use crate::schemes::{Scheme, longer};
+use crate::sharing::{drafts_for, reads_known};
+use affine_facts::facts::Facts;
 use affine_facts::numbers::{narrow, short};
 use affine_form::Memory;
 use joint_partition::limits::PARTS;
 use std::alloc::Global;
-
-/// The draft of a family for points by a read, where a part's draft knows the label of its words, and they keep it.
-fn shared_by(
-    alloc: Global,
-    facts: &Facts,
-    seed: &Draft,
-    own: &StatementFacts,
-    points: &Points,
-    label: &[Affine],
-    number: usize,
-    choice: Choice,
-) -> Result<Option<Draft>, Memory> {
-    let Some(read) = own.reads.get(number) else {
-        return Ok(None);
-    };
-    let bounds = own.nest.as_slice();
-    if !is_known(seed, read)
-        || is_repeated(own, number)
-        || !keeps_cells(alloc, facts, seed, label, bounds, read)?
-    {
-        return Ok(None);
-    }
-    let (statement, read, way) = (points.statement, short(number), Way::Whole);
-    let set = seed.set.as_slice();
-    drafted(
-        alloc,
-        facts,
-        statement,
-        read,
-        set,
-        label,
-        way,
-        choice,
-        Some(seed),
-    )
-}
-
-/// The draft of a family for points, by the first read of words whose label a part's draft knows and that keep it.
-fn sharing_with(
-    alloc: Global,
-    facts: &Facts,
-    seed: &Draft,
-    points: &Points,
-    label: &[Affine],
-    choice: Choice,
-) -> Result<Option<Draft>, Memory> {
-    let Some(own) = facts.statement(points.statement) else {
-        return Ok(None);
-    };
-    for number in 0..own.reads.len() {
-        let found = shared_by(alloc, facts, seed, own, points, label, number, choice)?;
-        if found.is_some() {
-            return Ok(found);
-        }
-    }
-    Ok(None)
-}
-
-/// The draft of a family for points, by a read of words that keep the label that they have from one of its parts.
-fn sharing_draft(
-    alloc: Global,
-    facts: &Facts,
-    plan: &Plan,
-    points: &Points,
-    choice: Choice,
-) -> Result<Option<Draft>, Memory> {
-    for (part, seed) in plan.drafts.as_slice().iter().enumerate() {
-        let label = points.label(alloc, seed.set.as_slice())?;
-        let found = sharing_with(alloc, facts, seed, points, label.as_slice(), choice)?;
-        if let Some(mut draft) = found {
-            draft.seed = Some(part);
-            return Ok(Some(draft));
-        }
-    }
-    Ok(None)
-}
-
-/// The draft of a family for points: by a read with which words keep their labels, else by another.
-fn draft_of(
-    alloc: Global,
-    facts: &Facts,
-    plan: &Plan,
-    points: &Points,
-) -> Result<Option<Draft>, Memory> {
-    let Some(first) = plan.drafts.as_slice().first() else {
-        return Ok(None);
-    };
-    for choice in [Choice::Strict, Choice::Loose] {
-        let found = sharing_draft(alloc, facts, plan, points, choice)?;
-        if found.is_some() {
-            return Ok(found);
-        }
-    }
-    let set = first.set.as_slice();
-    let label = points.label(alloc, set)?;
-    let label = label.as_slice();
-    let wanted = named(alloc, facts.params, points.bounds.len(), label)?;
-    let statement = points.statement;
-    draft_for(
-        alloc,
-        facts,
-        statement,
-        set,
-        label,
-        wanted.as_slice(),
-        &BEST,
-        false,
-    )
-}
-
-/// The drafts of a scheme's families for points, where each has one, and some words keep their labels.
-fn drafts_for(
-    alloc: Global,
-    facts: &Facts,
-    scheme: &Scheme,
-    points: &Points,
-) -> Result<Option<Vec<Draft>>, Memory> {
-    let mut all = Vec::new(alloc);
-    let mut shared = false;
-    for plan in scheme.plans.as_slice() {
-        let Some(draft) = draft_of(alloc, facts, plan, points)? else {
-            return Ok(None);
-        };
-        shared = shared || draft.seed.is_some();
-        all.push(draft)?;
-    }
-    if shared { Ok(Some(all)) } else { Ok(None) }
-}
 
 /// A scheme that is stronger, with the code of its ways.
 #[derive(Drop)]
@@ -153,19 +24,35 @@ pub(crate) struct Stronger {
     gain: Gain,
 }
 
-/// The scheme with the last of these parts more, with the drafts of each family for it, where it gains more than so much.
-fn with_part(
-    alloc: Global,
-    facts: &Facts,
-    scheme: &Scheme,
-    parts: &[Points],
-    drafts: Vec<Draft>,
+/// Schemes that are weighed against each other: the strongest so far that gains more than so much, and how many more may be weighed.
+#[derive(Drop)]
+struct Contest {
+    best: Option<Stronger>,
     least: Gain,
-) -> Result<Option<Stronger>, Memory> {
-    let scheme = longer(alloc, scheme, parts, drafts)?;
-    match gained(alloc, facts, &scheme)? {
-        Some((gain, code)) if gain.is_more(least) => Ok(Some(Stronger { scheme, code, gain })),
-        _ => Ok(None),
+    left: usize,
+}
+
+impl Contest {
+    /// How much is to be passed.
+    fn bar(&self) -> Gain {
+        match &self.best {
+            Some(stronger) => stronger.gain,
+            None => self.least,
+        }
+    }
+
+    /// Weighs a scheme.
+    fn weigh(&mut self, alloc: Global, facts: &Facts, scheme: Scheme) -> Result<(), Memory> {
+        if self.left == 0 {
+            return Ok(());
+        }
+        self.left = self.left.saturating_sub(1);
+        if let Some((gain, code)) = gained(alloc, facts, &scheme)? {
+            if gain.is_more(self.bar()) {
+                self.best = Some(Stronger { scheme, code, gain });
+            }
+        }
+        Ok(())
     }
 }
 
@@ -225,59 +112,49 @@ fn kinds_for(alloc: Global, scheme: &Scheme, is_same: bool) -> Result<Vec<Coordi
     Ok(all)
 }
 
-/// The strongest scheme with a statement over these coordinates as a part more, where there is one that gains more than so much.
-fn best_over(
+/// Weighs the schemes with a statement over these coordinates as a part more.
+fn weigh_over(
     alloc: Global,
     facts: &Facts,
     scheme: &Scheme,
     statement: u16,
     kind: Coordinates,
-    mut best: Option<Stronger>,
-    least: Gain,
-) -> Result<Option<Stronger>, Memory> {
+    contest: &mut Contest,
+) -> Result<(), Memory> {
     let Some(points) = points_over(alloc, facts, statement, kind)? else {
-        return Ok(best);
+        return Ok(());
     };
     let Some(drafts) = drafts_for(alloc, facts, scheme, &points)? else {
-        return Ok(best);
+        return Ok(());
     };
-    let so_far = match &best {
-        Some(stronger) => stronger.gain,
-        None => least,
-    };
-    if !may_gain(alloc, facts, scheme, drafts.as_slice(), so_far)? {
-        return Ok(best);
+    let drafts = drafts.as_slice();
+    if !may_gain(alloc, facts, scheme, drafts, contest.bar())? {
+        return Ok(());
     }
     for placed in placed_parts(alloc, facts, scheme, points, kind)? {
-        let least = match &best {
-            Some(stronger) => stronger.gain,
-            None => least,
-        };
-        if let Some(own) = drafts_at(alloc, facts, scheme, &placed, drafts.as_slice())? {
+        if let Some(own) = drafts_at(alloc, facts, scheme, &placed, drafts)? {
             let parts = placed.parts.as_slice();
-            let found = with_part(alloc, facts, scheme, parts, own, least)?;
-            if found.is_some() {
-                best = found;
-            }
+            contest.weigh(alloc, facts, longer(alloc, scheme, parts, own)?)?;
         }
     }
-    Ok(best)
+    Ok(())
 }
 
-/// The strongest scheme with a statement as a part more, where there is one that gains more than so much.
-fn best_with(
+/// Weighs the schemes with a statement as a part more.
+fn weigh_with(
     alloc: Global,
     facts: &Facts,
     scheme: &Scheme,
     statement: u16,
     is_same: bool,
-    mut best: Option<Stronger>,
-    least: Gain,
-) -> Result<Option<Stronger>, Memory> {
+    contest: &mut Contest,
+) -> Result<(), Memory> {
     for kind in kinds_for(alloc, scheme, is_same)? {
-        best = best_over(alloc, facts, scheme, statement, kind, best, least)?;
+        if contest.left > 0 {
+            weigh_over(alloc, facts, scheme, statement, kind, contest)?;
+        }
     }
-    Ok(best)
+    Ok(())
 }
 
 /// Whether a statement may be a part more, beside the first part's own one: it is behind that in the text, in as many loops, and no part
@@ -294,7 +171,31 @@ fn is_other(facts: &Facts, scheme: &Scheme, first: u16, statement: u16) -> bool 
     statement > first && own.depth() == scheme.depth() && !is_part
 }
 
-/// The strongest scheme with a part more: of another statement, or, where there is one part, of its own statement.
+/// Weighs the schemes with another statement as a part more, of those that read words of the scheme's; the first ones alone in a long
+/// program.
+fn weigh_others(
+    alloc: Global,
+    facts: &Facts,
+    scheme: &Scheme,
+    first: u16,
+    contest: &mut Contest,
+) -> Result<(), Memory> {
+    let mut left = share(facts, 128).max(4);
+    for number in 0..facts.statements.len() {
+        let statement = short(number);
+        if left > 0
+            && is_other(facts, scheme, first, statement)
+            && reads_known(facts, scheme, statement)
+        {
+            left = left.saturating_sub(1);
+            weigh_with(alloc, facts, scheme, statement, false, contest)?;
+        }
+    }
+    Ok(())
+}
+
+/// The strongest scheme with a part more, where one gains more than so much: of another statement, or, where there is one part, of its own
+/// statement.
 fn grown_once(
     alloc: Global,
     facts: &Facts,
@@ -305,17 +206,16 @@ fn grown_once(
         return Ok(None);
     };
     let first = first.statement;
-    let mut best = None;
-    for number in 0..facts.statements.len() {
-        let statement = short(number);
-        if is_other(facts, scheme, first, statement) {
-            best = best_with(alloc, facts, scheme, statement, false, best, least)?;
-        }
-    }
+    let mut contest = Contest {
+        best: None,
+        least,
+        left: share(facts, 128).max(4),
+    };
+    weigh_others(alloc, facts, scheme, first, &mut contest)?;
     if scheme.parts.len() == 1 {
-        return best_with(alloc, facts, scheme, first, true, best, least);
+        weigh_with(alloc, facts, scheme, first, true, &mut contest)?;
     }
-    Ok(best)
+    Ok(contest.best)
 }
 
 /// The scheme with its one part cut, where that gains more than so much.

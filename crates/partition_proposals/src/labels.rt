@@ -1,6 +1,6 @@
 //! Labels of words along walks back, thought out without multipliers.
 
-use crate::drafts::{Choice, Draft, Way, copied, copied_label, empty_draft, seeded};
+use crate::drafts::{Choice, Draft, Request, Way, copied, copied_label, empty_draft, seeded};
 use crate::searching::searched;
 use affine_facts::affine::{Affine, copies};
 use affine_facts::combined::all_combined;
@@ -46,17 +46,30 @@ struct Reader<'a> {
     read: &'a ReadFacts,
 }
 
-/// Whether an input cell can have the reader's label, with the label of the array's cells where it was missing.
-fn cell_labelled(
+/// What the source at a leaf needs to have the reader's label.
+#[derive(Drop)]
+enum Need {
+    /// It can't have it.
+    Impossible,
+    /// It has it.
+    Nothing,
+    /// A label of an array's cells.
+    Cells(u16, Vec<Affine>),
+    /// A label of a statement's instances.
+    Instances(u16, Vec<Affine>),
+}
+
+/// What an input cell needs to have the reader's label.
+fn cell_need(
     alloc: Global,
     facts: &Facts,
-    draft: &mut Draft,
+    draft: &Draft,
     reader: Reader,
     leaf: &TreeLeaf,
-) -> Result<bool, Memory> {
+) -> Result<Need, Memory> {
     let access = &reader.read.access;
     if draft.cell_label(access.array).is_some() {
-        return Ok(true);
+        return Ok(Need::Nothing);
     }
     let bounds = if leaf.tests.is_empty() {
         None
@@ -65,53 +78,59 @@ fn cell_labelled(
     };
     let subs = access.subs.as_slice();
     match all_combined(alloc, facts.params, reader.label, subs, bounds)? {
-        Some(cells) => {
-            draft.put_cells(access.array, cells);
-            Ok(true)
-        }
-        None => Ok(false),
+        Some(cells) => Ok(Need::Cells(access.array, cells)),
+        None => Ok(Need::Impossible),
     }
 }
 
-/// Whether an instance can have the reader's label, with the label of its statement where that was missing; and the
-/// statement, if it is new.
-fn source_labelled(
+/// What an instance needs to have the reader's label.
+fn instance_need(
     alloc: Global,
     facts: &Facts,
-    draft: &mut Draft,
+    draft: &Draft,
     reader: Reader,
     statement: u16,
     point: &[Affine],
-) -> Result<(bool, Option<u16>), Memory> {
+) -> Result<Need, Memory> {
     if let Some(known) = draft.label_of(statement) {
         let at_source = all_put(alloc, facts.params, known, point)?;
-        return Ok((are_same(at_source.as_slice(), reader.label), None));
+        if are_same(at_source.as_slice(), reader.label) {
+            return Ok(Need::Nothing);
+        }
+        return Ok(Need::Impossible);
     }
     let access = &reader.read.access;
     match source_label(alloc, facts, reader.label, access, statement, point)? {
-        Some(of_source) => {
-            draft.put_label(statement, of_source);
-            Ok((true, Some(statement)))
-        }
-        None => Ok((false, None)),
+        Some(of_source) => Ok(Need::Instances(statement, of_source)),
+        None => Ok(Need::Impossible),
     }
 }
 
-/// Whether the source at a leaf can have the reader's label, with the labels that were missing; and the statement, if that of
-/// the source is new.
-fn leaf_labelled(
+/// What the source at a leaf needs to have the reader's label.
+fn need_at(
     alloc: Global,
     facts: &Facts,
-    draft: &mut Draft,
+    draft: &Draft,
     reader: Reader,
     leaf: &TreeLeaf,
-) -> Result<(bool, Option<u16>), Memory> {
+) -> Result<Need, Memory> {
     match &leaf.origin {
-        Origin::Unknown => Ok((false, None)),
-        Origin::Input => Ok((cell_labelled(alloc, facts, draft, reader, leaf)?, None)),
+        Origin::Unknown => Ok(Need::Impossible),
+        Origin::Input => cell_need(alloc, facts, draft, reader, leaf),
         Origin::Instance { statement, point } => {
-            source_labelled(alloc, facts, draft, reader, *statement, point.as_slice())
+            instance_need(alloc, facts, draft, reader, *statement, point.as_slice())
         }
+    }
+}
+
+/// Whether the first source of a read can have the reader's label.
+fn may_begin(alloc: Global, facts: &Facts, draft: &Draft, reader: Reader) -> Result<bool, Memory> {
+    match reader.read.leaves.as_slice().first() {
+        Some(leaf) => {
+            let need = need_at(alloc, facts, draft, reader, leaf)?;
+            Ok(!matches!(need, Need::Impossible))
+        }
+        None => Ok(true),
     }
 }
 
@@ -127,12 +146,14 @@ fn labelled(
     let mut fresh = Vec::new(alloc);
     let mut is_first = true;
     for leaf in reader.read.leaves.as_slice() {
-        let (holds, statement) = leaf_labelled(alloc, facts, draft, reader, leaf)?;
-        if !holds && (is_strict || is_first) {
-            return Ok(None);
-        }
-        if let Some(statement) = statement {
-            fresh.push(statement)?;
+        match need_at(alloc, facts, draft, reader, leaf)? {
+            Need::Impossible if is_strict || is_first => return Ok(None),
+            Need::Impossible | Need::Nothing => {}
+            Need::Cells(array, label) => draft.put_cells(array, label),
+            Need::Instances(statement, label) => {
+                draft.put_label(statement, label);
+                fresh.push(statement)?;
+            }
         }
         is_first = false;
     }
@@ -179,6 +200,9 @@ pub(crate) fn stepped_by(
         label: label.as_slice(),
         read,
     };
+    if !may_begin(alloc, facts, draft, reader)? {
+        return Ok(None);
+    }
     let mut tried = copied(alloc, draft)?;
     match labelled(alloc, facts, &mut tried, reader, is_strict)? {
         Some(fresh) => {
@@ -277,41 +301,34 @@ pub(crate) fn is_repeated(own: &StatementFacts, number: usize) -> bool {
     })
 }
 
-/// A family of a statement's read, with these coordinates and this label, which begins with what another one knows of words, if there
-/// is one. Where walks are to go on, they do so from each statement that some read of it lets them.
+/// A family that is asked for, which begins with what another one knows of words, if there is one. Where walks are to go on, they do so
+/// from each statement that some read of it lets them.
 pub(crate) fn drafted(
     alloc: Global,
     facts: &Facts,
-    statement: u16,
-    read: u16,
-    set: &[u8],
-    label: &[Affine],
-    way: Way,
-    choice: Choice,
+    request: Request,
     seed: Option<&Draft>,
 ) -> Result<Option<Draft>, Memory> {
-    let Some(own_facts) = facts.statement(statement) else {
+    let Some(own) = facts.statement(request.statement) else {
         return Ok(None);
     };
-    let Some(start) = facts.read(statement, read) else {
+    let Some(start) = facts.read(request.statement, request.read) else {
         return Ok(None);
     };
     let reader = Reader {
-        bounds: own_facts.nest.as_slice(),
-        label,
+        bounds: own.nest.as_slice(),
+        label: request.label,
         read: start,
     };
-    let set = Vec::from_slice(alloc, set)?;
-    let own = copies(alloc, label)?;
-    let empty = empty_draft(alloc, facts, way, choice, statement, read, set, own)?;
+    let empty = empty_draft(alloc, facts, request)?;
     let mut draft = seeded(alloc, empty, seed)?;
-    let is_strict = choice == Choice::Strict;
+    let is_strict = request.choice == Choice::Strict;
     let Some(waiting) = labelled(alloc, facts, &mut draft, reader, is_strict)? else {
         return Ok(None);
     };
-    match choice {
-        _ if way == Way::Short => Ok(Some(draft)),
-        Choice::Tried => searched(alloc, facts, own_facts.depth(), draft, waiting),
+    match request.choice {
+        _ if request.way == Way::Short => Ok(Some(draft)),
+        Choice::Tried => searched(alloc, facts, own.depth(), draft, waiting),
         Choice::Strict | Choice::Loose => Ok(Some(with_steps(alloc, facts, draft, waiting)?)),
     }
 }

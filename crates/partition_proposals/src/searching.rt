@@ -1,14 +1,17 @@
 //! Walks that go on from all statements, looked for by trying reads in turn.
 
 use crate::drafts::Draft;
+use crate::effort::share;
 use crate::labels::{is_repeated, rank, stepped_by};
 use affine_facts::facts::Facts;
 use affine_facts::numbers::short;
 use affine_form::Memory;
 use std::alloc::Global;
 
-/// How many drafts are tried at most.
-const TRIALS: usize = 48;
+/// How many drafts are tried at most: fewer in a long program, where there are more of them and walks are longer.
+fn most_trials(facts: &Facts) -> usize {
+    share(facts, share(facts, 3072)).clamp(4, 48)
+}
 
 /// A draft, and the statements from which its walks don't go on yet.
 #[derive(Drop)]
@@ -87,7 +90,7 @@ pub(crate) fn searched(
     waiting: Vec<u16>,
 ) -> Result<Option<Draft>, Memory> {
     let mut open = vec![in alloc; Open { draft, waiting }]?;
-    for _trial in 0..TRIALS {
+    for _trial in 0..most_trials(facts) {
         let Some(Open { draft, mut waiting }) = open.pop() else {
             return Ok(None);
         };

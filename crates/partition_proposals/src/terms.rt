@@ -290,7 +290,7 @@ fn made_apart(
     }
 }
 
-/// The term of families that are apart by some ways, the first such.
+/// The term of families that are apart by some ways, the first such whose words aren't taken.
 fn term_apart(
     alloc: Global,
     program: &Program,
@@ -299,8 +299,10 @@ fn term_apart(
     tried: &Tried,
     taken: &[Vec<Words>],
 ) -> Result<Option<Proposed<StretchTerm>>, Memory> {
+    let free = tried.free_ways(alloc, facts, taken)?;
     for code in 0..codes(tried.families()) {
-        if tried.by_code(alloc, code)?.are_all_apart() {
+        let is_free = tried.are_among(code, free.as_slice());
+        if is_free && tried.by_code(alloc, code)?.are_all_apart() {
             if let Some((made, shown)) = made_apart(alloc, facts, scheme, code)? {
                 let standing = Standing::Apart(shown);
                 let term = whole(alloc, program, facts, scheme, made, standing, taken)?;
