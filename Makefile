@@ -6,51 +6,79 @@ parts := $(shell awk -F: '/^[a-z]/ { below[$$1] = $$2 } \
 	for (i = 1; i <= n; i++) visit(names[i]); print it } END { visit("iolb_cli"); visit("iolb_explain") }' crates.txt)
 sources := crates.txt HANDLES $(shell find $(parts:%=crates/%) \( -name '*.rt' -o -name '*.antt' \) -not -path '*/out/*')
 
-.PHONY: all test docs install uninstall clean
+.PHONY: all quick built dist test docs install uninstall clean
 
-all: bin/iolb bin/iolb-explain
+all: bin/PROVED.txt
 
 # The prover of the gate works on a copy that has no edits and no cases: each crate is proved as soon as those below it are, as
 # many side by side as processors and memory allow, and the programs are compiled and run on their stored examples.
-bin/iolb bin/iolb-explain &: $(sources)
+bin/PROVED.txt: $(sources)
 	@mkdir -p bin
-	@room=$$(mktemp -d) && trap 'rm -rf "$$room"' EXIT && mkdir "$$room/crates" \
+	@facts=$$(tools/build facts) && room=$$(mktemp -d) && trap 'rm -rf "$$room"' EXIT && mkdir "$$room/crates" \
 	&& for it in $(parts); do mkdir "$$room/crates/$$it" && (cd crates/$$it && cp -r $$(ls | grep -vx -e out -e must-fail -e README.md) "$$room/crates/$$it") || exit 1; done \
 	&& cp HANDLES "$$room" && for it in $(parts); do grep "^$$it:" crates.txt; done > "$$room/crates.txt" \
 	&& (cd "$$room" && rt ci 2>&1) | tee bin/build.log | awk '/^rt: [a-z0-9_]+ (proved$$|is kept:)/ { print ++done " of $(words $(parts)): " $$2; fflush() }' \
-	&& tail -n 1 bin/build.log | grep -q ' passed, 0 failed$$' || { tail -n 40 bin/build.log; exit 1; } \
-	&& cp "$$room/crates/iolb_cli/out/iolb_cli" bin/iolb && cp "$$room/crates/iolb_explain/out/iolb_explain" bin/iolb-explain
-	@echo "bin/iolb and bin/iolb-explain are built"
+	&& tail -n 1 bin/build.log | grep -q ' passed, 0 failed$$' || { test -z "$$room" || tail -n 40 bin/build.log; exit 1; } \
+	&& tools/build proved "$$room" "$$facts"
+	@echo "bin/iolb and bin/iolb-explain are built, and every proof was checked"
+
+# The same programs without their proofs.
+quick:
+	@tools/build quick
+
+built:
+	@test -e bin/BUILT || { echo "make: nothing is built: \`make\` checks the proofs and builds the programs, \`make quick\` builds them alone" >&2; exit 1; }
+	@test -z "$$(find crates.txt $(parts:%=crates/%) -type f \( -name crates.txt -o -path '*/src/*.rt' \) -newer bin/BUILT)" || echo "make: note: the sources are newer than the programs in bin/" >&2
+
+# The archive and the Debian package of a proved build.
+dist:
+	tools/dist
 
 test:
 	rt ci
 
 # The pages' commands print what the pages say, the gallery is what the programs say, and the schemas of the package hold of the
 # shipped texts.
-docs: bin/iolb
+docs: built
 	bench/pages bin/iolb
 	bench/gallery bin
 	bench/schemas bin/iolb
 
-share := $(DESTDIR)$(PREFIX)/share
-installed := $(DESTDIR)$(PREFIX)/bin/iolb $(DESTDIR)$(PREFIX)/bin/iolb-explain $(share)/man/man1/iolb.1 $(share)/man/man1/iolb-explain.1 $(share)/bash-completion/completions/iolb $(share)/bash-completion/completions/iolb-explain $(share)/zsh/site-functions/_iolb $(share)/zsh/site-functions/_iolb-explain
+# What users call beside the programs: a script stands in share/iolb/scripts, and in bin is a link of its name with iolb- before it.
+# Folders hold what scripts import.
+scripts := bench/curve bench/stores bench/assumptions $(wildcard bench/report front/iolb-prepare)
+imported := $(wildcard front/prepare)
+called = iolb-$(patsubst iolb-%,%,$(notdir $(1)))
 
-install: bin/iolb bin/iolb-explain
-	install -D -m 755 bin/iolb $(DESTDIR)$(PREFIX)/bin/iolb
-	install -D -m 755 bin/iolb-explain $(DESTDIR)$(PREFIX)/bin/iolb-explain
+binaries := $(DESTDIR)$(PREFIX)/bin
+share := $(DESTDIR)$(PREFIX)/share
+pages := $(share)/doc/iolb
+completions := $(share)/bash-completion/completions/iolb $(share)/bash-completion/completions/iolb-explain $(share)/zsh/site-functions/_iolb $(share)/zsh/site-functions/_iolb-explain
+installed := $(binaries)/iolb $(binaries)/iolb-explain $(share)/man/man1/iolb.1 $(share)/man/man1/iolb-explain.1 $(completions) $(foreach it,$(scripts),$(binaries)/$(call called,$(it)))
+
+install: built
+	install -D -m 755 bin/iolb $(binaries)/iolb
+	install -D -m 755 bin/iolb-explain $(binaries)/iolb-explain
 	install -D -m 644 package/iolb.1 $(share)/man/man1/iolb.1
 	install -D -m 644 package/iolb-explain.1 $(share)/man/man1/iolb-explain.1
 	install -D -m 644 package/iolb.bash $(share)/bash-completion/completions/iolb
 	install -D -m 644 package/iolb-explain.bash $(share)/bash-completion/completions/iolb-explain
 	install -D -m 644 package/_iolb $(share)/zsh/site-functions/_iolb
 	install -D -m 644 package/_iolb-explain $(share)/zsh/site-functions/_iolb-explain
-	install -d $(share)/iolb/schemas
+	install -d $(share)/iolb/schemas $(share)/iolb/scripts $(pages)/docs/pictures $(pages)/examples/gallery
 	install -m 644 package/schemas/*.json $(share)/iolb/schemas
 	install -m 644 package/problem-matcher.json $(share)/iolb
+	$(foreach it,$(scripts),install -m 755 $(it) $(share)/iolb/scripts/$(call called,$(it)) && ln -sf ../share/iolb/scripts/$(call called,$(it)) $(binaries)/$(call called,$(it)) &&) true
+	$(foreach it,$(imported),install -d $(share)/iolb/scripts/$(notdir $(it)) && install -m 644 $(it)/*.py $(share)/iolb/scripts/$(notdir $(it)) &&) true
+	install -m 644 README.md VERSION CITATION.cff bin/BUILT $(wildcard bin/PROVED.txt) $(pages)
+	install -m 644 docs/*.md $(pages)/docs
+	install -m 644 docs/pictures/* $(pages)/docs/pictures
+	install -m 644 $(wildcard examples/*.*) $(pages)/examples
+	install -m 644 examples/gallery/* $(pages)/examples/gallery
 
 uninstall:
 	rm -f $(installed)
-	rm -rf $(share)/iolb
+	rm -rf $(share)/iolb $(pages)
 
 clean:
-	rm -rf bin crates/*/out
+	rm -rf bin dist crates/*/out
