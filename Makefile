@@ -6,13 +6,13 @@ parts := $(shell awk -F: '/^[a-z]/ { below[$$1] = $$2 } \
 	for (i = 1; i <= n; i++) visit(names[i]); print it } END { visit("iolb_cli"); visit("iolb_explain") }' crates.txt)
 sources := crates.txt HANDLES $(shell find $(parts:%=crates/%) \( -name '*.rt' -o -name '*.antt' \) -not -path '*/out/*')
 
-.PHONY: all quick built dist test docs install uninstall clean
+.PHONY: all quick first built dist test docs install uninstall clean
 
-all: bin/PROVED.txt
+all: bin/PROVED.txt bin/iolb bin/iolb-explain
 
 # The prover of the gate works on a copy that has no edits and no cases: each crate is proved as soon as those below it are, as
 # many side by side as processors and memory allow, and the programs are compiled and run on their stored examples.
-bin/PROVED.txt: $(sources)
+bin/PROVED.txt bin/iolb bin/iolb-explain &: $(sources)
 	@mkdir -p bin
 	@facts=$$(tools/build facts) && room=$$(mktemp -d) && trap 'rm -rf "$$room"' EXIT && mkdir "$$room/crates" \
 	&& for it in $(parts); do mkdir "$$room/crates/$$it" && (cd crates/$$it && cp -r $$(ls | grep -vx -e out -e must-fail -e README.md) "$$room/crates/$$it") || exit 1; done \
@@ -25,6 +25,11 @@ bin/PROVED.txt: $(sources)
 # The same programs without their proofs.
 quick:
 	@tools/build quick
+
+# The first answer from a fresh clone is timed, and what the builds say where something is missing is held against what they are to say.
+first:
+	tools/first
+	tools/missing
 
 built:
 	@test -e bin/BUILT || { echo "make: nothing is built: \`make\` checks the proofs and builds the programs, \`make quick\` builds them alone" >&2; exit 1; }
@@ -54,13 +59,13 @@ binaries := $(DESTDIR)$(PREFIX)/bin
 share := $(DESTDIR)$(PREFIX)/share
 pages := $(share)/doc/iolb
 completions := $(share)/bash-completion/completions/iolb $(share)/bash-completion/completions/iolb-explain $(share)/zsh/site-functions/_iolb $(share)/zsh/site-functions/_iolb-explain
-installed := $(binaries)/iolb $(binaries)/iolb-explain $(share)/man/man1/iolb.1 $(share)/man/man1/iolb-explain.1 $(completions) $(foreach it,$(scripts),$(binaries)/$(call called,$(it)))
+installed := $(binaries)/iolb $(binaries)/iolb-explain $(patsubst package/%,$(share)/man/man1/%,$(wildcard package/*.1)) $(completions) $(foreach it,$(scripts),$(binaries)/$(call called,$(it)))
 
 install: built
 	install -D -m 755 bin/iolb $(binaries)/iolb
 	install -D -m 755 bin/iolb-explain $(binaries)/iolb-explain
-	install -D -m 644 package/iolb.1 $(share)/man/man1/iolb.1
-	install -D -m 644 package/iolb-explain.1 $(share)/man/man1/iolb-explain.1
+	install -d $(share)/man/man1
+	install -m 644 package/*.1 $(share)/man/man1
 	install -D -m 644 package/iolb.bash $(share)/bash-completion/completions/iolb
 	install -D -m 644 package/iolb-explain.bash $(share)/bash-completion/completions/iolb-explain
 	install -D -m 644 package/_iolb $(share)/zsh/site-functions/_iolb
