@@ -247,6 +247,7 @@ begun complete call left request text note (samples products) some comes gains n
       values = sampled.values;
       valid = sampled.valid;
       made = sampled.made;
+      short = sampled.short;
       value = sampled.value;
       greatest = sampled.greatest;
       at_least = λ moves game. sample-least products sampled.values sampled.value moves sampled.greatest sampled.holds game;

@@ -21,6 +21,7 @@ use Rattle.iolb_check.specs.declared.bound.Value.{Value}
 use Rattle.iolb_check.specs.declared.value_fault.ValueFault.{ValueFault}
 use Rattle.iolb_check.specs.declared.value_fault.ValueFault.TheVariants.{OutsideAssumption, Wide}
 use Rattle.tile_sched.proofs.Refusals.{met_first}
+use Rattle.iolb_commands.specs.Bounded.{IsKeptShort}
 use Rattle.iolb_commands.specs.Sampled.{IsGreatestNarrow, IsNarrowValue, IsOfOne, IsSampled, sample_memory, sample_sizes, sample_text}
 use Rattle.iolb_commands.specs.Task.{bound_with}
 use Rattle.iolb_commands.proofs.Values.{wide-at}
@@ -94,9 +95,9 @@ of-one certified products certificate values value made valid greatest is =
 
 -- so a certificate that was made answers
 pub sampled_so : (program : ProgramParts) (products : ℕ) (certificate : CertificateParts) (bound : BoundParts) (value : ℕ) (text : List ℕ) → meaning program ≡ product_program products
-    → Gives program certificate bound → IsMadeFor (meaning program) certificate → IsGreatestNarrow bound.branches sample_sizes sample_memory value → OneProductIsCertified → ProductsHaveOpenings → text ≡ sample_text products value
+    → Gives program certificate bound → IsMadeFor (meaning program) certificate → IsKeptShort (meaning program) certificate → IsGreatestNarrow bound.branches sample_sizes sample_memory value → OneProductIsCertified → ProductsHaveOpenings → text ≡ sample_text products value
     → IsSampled products text []
-sampled_so program products certificate bound value text is gives made greatest certified opens says =
+sampled_so program products certificate bound value text is gives made short greatest certified opens says =
     let valid = subst (λ (q : AffineProgram). MeetsConditions q (claim_of_certificate certificate) bound.branches) is gives.meets in
     let its = subst (λ (q : AffineProgram). IsMadeFor q certificate) is made in
     record {
@@ -106,6 +107,7 @@ sampled_so program products certificate bound value text is gives made greatest 
       holds = subst (λ (q : AffineProgram). BoundHolds q (bound_with q bound.branches)) is
           (subst (λ (a : AffineSystem). BoundHolds (meaning program) (bound_of (record { assumed = a; branches = bound.branches }))) gives.assumed gives.holds);
       made = its;
+      short = subst (λ (q : AffineProgram). IsKeptShort q certificate) is short;
       value = value;
       greatest = greatest;
       one = of-one certified products certificate bound.branches value its valid greatest;

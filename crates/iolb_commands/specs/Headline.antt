@@ -21,7 +21,7 @@ use Rattle.tile_sched.specs.declared.schedule.Key.{Key}
 use Rattle.tile_sched.specs.Order.{IsOrder, said}
 use Rattle.tile_sched.specs.Lines.{play_text}
 use Rattle.iolb_check.specs.declared.bound.Value.{Value}
-use Rattle.iolb_commands.specs.Bounded.{IsOfMaker}
+use Rattle.iolb_commands.specs.Bounded.{IsKeptShort, IsOfMaker}
 use Rattle.iolb_commands.specs.Held.{HoldsCertificate, HoldsMoves, HoldsProgram, HoldsSchedule, HoldsStores}
 use Rattle.iolb_commands.specs.Outcome.{Call}
 use Rattle.iolb_commands.specs.Sampled.{IsGreatestNarrow, IsOfOne, IsOfSeveral, sample_memory, sample_sizes, sample_text}
@@ -129,8 +129,8 @@ pub record IsTrafficPrinted (call : Call) (left : CallUse) (request : Request) (
 -- certificate, which meets the conditions for the program, and the standard error exactly the text of its bound, which has the
 -- program's assumptions and for each term the value that the conditions give. The bound holds. For a projective
 -- program with a cover in reach the certificate is that of the cover, with the least exponent of all rational covers; for every other
--- one the first branch is the opening one, or no read is plain. The text is the one that the certificate is written as: compact JSON,
--- the keys of each object in byte order, and a newline at the end.
+-- one the first branch is the opening one, or no read is plain, and the text has at most 64 MiB, or nothing more can be left out of it.
+-- The text is the one that the certificate is written as: compact JSON, the keys of each object in byte order, and a newline at the end.
 pub record IsCertificatePrinted (call : Call) (left : CallUse) (request : Request) : Type 0 where
   pub program : AffineProgram
   pub holds_program : HoldsProgram call.files (file_at request.files 0) program
@@ -154,6 +154,7 @@ pub record IsSamplePrinted (left : CallUse) (products : ℕ) : Type 0 where
   pub values : List (List Value)
   pub valid : MeetsConditions (product_program products) (claim_of_certificate certificate) values
   pub made : IsMadeFor (product_program products) certificate
+  pub short : IsKeptShort (product_program products) certificate
   pub value : ℕ
   pub greatest : IsGreatestNarrow values sample_sizes sample_memory value
   pub at_least : (moves : List Move) → IsCompletePebbling (computation_graph (product_program products) sample_sizes) sample_memory moves → value ≤ loads moves

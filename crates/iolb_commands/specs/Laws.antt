@@ -5,10 +5,14 @@ use Rattle.iolb_model.specs.Bound.{AreMet, Bound, IsAdmitted, bound_value}
 use Rattle.iolb_model.specs.Game.{loads}
 use Rattle.iolb_model.specs.Graph.{computation_graph}
 use Rattle.iolb_model.specs.Program.{AffineProgram}
-use Rattle.iolb_model.specs.Tower.{IsCompleteTower}
+use Rattle.iolb_model.specs.Tower.{IsCompleteTower, tower_left}
 use Rattle.iolb_model.specs.declared.tower.TowerMove.{TowerMove}
 use Rattle.loop_graph.specs.Builds.{IsWithinReach}
+use Rattle.memory_levels.specs.Climbs.{AreLegal, IsFirstIllegal}
+use Rattle.memory_levels.specs.MovesText.{IsFirstBadLine}
+use Rattle.memory_levels.specs.Towers.{IsFirstUnfinished}
 use Rattle.memory_levels.specs.Values.{IsWideAtLevels}
+use Rattle.memory_levels.specs.declared.illegal.TowerIllegal.{TowerIllegal}
 use Rattle.parallel_bound.specs.Widths.{HasWideParallelBranch}
 use Rattle.iolb_check.specs.Claims.{CertificateClaim}
 use Rattle.command_words.specs.Requests.{Request, Task, checks, evaluates, shares, levels, judges, replays, climbs, bounds_traffic, bounds, samples, file_at, request_of}
@@ -21,10 +25,10 @@ use Rattle.iolb_host.specs.Files.{FileMap, content_of}
 use Rattle.iolb_host.specs.MemFiles.{SureStore}
 use Rattle.iolb_host.specs.MemSink.{SureBytes}
 use Rattle.iolb_commands.specs.declared.status.Status.{Status}
-use Rattle.iolb_commands.specs.declared.status.Status.TheVariants.{Done, Refused, Words as WordsRefused, FileAbsent, ReadFault, WriteFault, NoMemory}
+use Rattle.iolb_commands.specs.declared.status.Status.TheVariants.{Done, Refused, Words as WordsRefused, OtherText as TextRefused, FileAbsent, ReadFault, WriteFault, NoMemory}
 use Rattle.iolb_commands.specs.declared.stop.Stop.{Stop}
 use Rattle.poly_tree.specs.Poly.{Quotient}
-use Rattle.store_bound.specs.Conditions.{MeetStores}
+use Rattle.store_bound.specs.Conditions.{MeetStores, stores_conditions}
 use Rattle.store_bound.specs.Values.{IsWideTraffic}
 use Rattle.store_terms.specs.Claims.{StoresClaim}
 use Rattle.tile_sched.specs.declared.schedule.Key.{Key}
@@ -34,8 +38,8 @@ use Rattle.iolb_commands.specs.Bounded.{IsBounded}
 use Rattle.iolb_commands.specs.Held.{HoldsCertificate, HoldsMoves, HoldsProgram, HoldsSchedule, HoldsStores}
 use Rattle.iolb_commands.specs.Outcome.{Call, Outcome}
 use Rattle.iolb_commands.specs.Phases.{RequestStop}
-use Rattle.iolb_commands.specs.Lines.{condition_line, file_line, usage}
-use Rattle.iolb_commands.specs.Reading.{IsAbsent}
+use Rattle.iolb_commands.specs.Lines.{condition_line, file_line, illegal_line, moves_line, not_complete_line, stores_condition_line, usage}
+use Rattle.iolb_commands.specs.Reading.{IsAbsent, IsContent}
 use Rattle.iolb_commands.specs.Sampled.{IsSampled}
 use Rattle.iolb_commands.specs.Stop.{IsPlain, stop_line, stop_status}
 use Rattle.iolb_commands.specs.Traffic.{traffic_loads, traffic_stores}
@@ -45,7 +49,7 @@ use Rattle.iolb_commands.specs.Values.{values_text}
 use Rattle.iolb_check.specs.Conditions.{MeetsConditions, conditions}
 use Rattle.claims.specs.Claims.{AllHold, FirstFails}
 use Rattle.claims.specs.declared.refused.FailedCondition.{FailedCondition}
-use Rattle.iolb_model.specs.declared.limits.TheConstants.{PROGRAM_BYTES}
+use Rattle.iolb_model.specs.declared.limits.TheConstants.{CERTIFICATE_BYTES, MOVES_BYTES, PROGRAM_BYTES}
 
 -- No read failed in a call, and no write: no count of faults rose.
 pub record IsUndisturbed (left : CallUse) : Type 0 where
@@ -262,6 +266,55 @@ abbrev pub FailingCertificatesAreRefused : Type 0
 FailingCertificatesAreRefused = (call : Call) (request : Request) (task : Task) (program : AffineProgram) (certificate : CertificateClaim) (failed : FailedCondition) (left : CallUse) (status : Status)
     → Reads call request task program certificate → HasSizes (judges task) program.parameters → FirstFails (conditions program certificate) failed
     → Outcome status call left → IsUndisturbed left → EndsWith status left Refused (condition_line failed.condition failed.place)
+
+-- ---- causes in the files behind the program's
+
+-- Where the third file, that of stores, isn't there, or is longer than stores may be, and the files before it are readable and the
+-- parameters named, the call ends with 5 and its name, or for want of memory, where it wasn't disturbed.
+abbrev pub AbsentStoresAreNamed : Type 0
+AbsentStoresAreNamed = (call : Call) (map : FileMap) (request : Request) (s : ℕ) (named : List NamedSize) (program : AffineProgram) (certificate : CertificateClaim) (fault : FileFault)
+    (left : CallUse) (status : Status)
+    → call.files ≡ Some map → request_of call.words ≡ Some request → request.work ≡ bounds_traffic s named → HoldsProgram call.files (file_at request.files 0) program
+    → HoldsCertificate call.files (file_at request.files 1) certificate → HasSizes (bounds_traffic s named) program.parameters
+    → IsAbsent (content_of map (file_at request.files 2)) CERTIFICATE_BYTES fault
+    → Outcome status call left → IsUndisturbed left → EndsWith status left FileAbsent (file_line (file_at request.files 2) fault)
+
+-- A call about stores of which a condition fails, beside a certificate that meets its own, ends with 1 and the first that does, or for
+-- want of memory, where it wasn't disturbed.
+abbrev pub FailingStoresAreRefused : Type 0
+FailingStoresAreRefused = (call : Call) (request : Request) (s : ℕ) (named : List NamedSize) (program : AffineProgram) (certificate : CertificateClaim) (stores : StoresClaim)
+    (values : List (List Value)) (failed : FailedCondition) (left : CallUse) (status : Status)
+    → ReadsStores call request s named program certificate stores → HasSizes (bounds_traffic s named) program.parameters → MeetsConditions program certificate values
+    → FirstFails (stores_conditions program certificate stores) failed
+    → Outcome status call left → IsUndisturbed left → EndsWith status left Refused (stores_condition_line failed.condition failed.place)
+
+-- A call about a text with a line that is none of a move ends with 4 and the first such line's first byte, or for want of memory, where
+-- it wasn't disturbed.
+abbrev pub OtherMovesAreRefused : Type 0
+OtherMovesAreRefused = (call : Call) (map : FileMap) (request : Request) (capacities : List ℕ) (named : List NamedSize) (program : AffineProgram) (bytes : List ℕ) (place : ℕ)
+    (left : CallUse) (status : Status)
+    → call.files ≡ Some map → request_of call.words ≡ Some request → request.work ≡ climbs capacities named → HoldsProgram call.files (file_at request.files 0) program
+    → HasSizes (climbs capacities named) program.parameters → IsContent (Some map) (file_at request.files 1) MOVES_BYTES bytes → IsFirstBadLine bytes place
+    → Outcome status call left → IsUndisturbed left → EndsWith status left TextRefused (moves_line place)
+
+-- A call about moves of which one isn't allowed, at sizes whose graph is within reach, ends with 1, the first such and its line, or for
+-- want of memory, where it wasn't disturbed.
+abbrev pub IllegalMovesAreRefused : Type 0
+IllegalMovesAreRefused = (call : Call) (request : Request) (capacities : List ℕ) (named : List NamedSize) (program : AffineProgram) (moves : List TowerMove) (sizes : List ℤ)
+    (line : ℕ) (illegal : TowerIllegal) (left : CallUse) (status : Status)
+    → ReadsMoves call request capacities named program moves → values_for program.parameters named ≡ Some sizes → AreMet program.assumptions sizes → IsWithinReach program sizes
+    → IsFirstIllegal (computation_graph program sizes) capacities moves line illegal
+    → Outcome status call left → IsUndisturbed left → EndsWith status left Refused (illegal_line line illegal)
+
+-- A call about moves that are allowed and leave an instance unfinished ends with 1 and the first such, or for want of memory, where it
+-- wasn't disturbed.
+abbrev pub UnfinishedPlaysAreRefused : Type 0
+UnfinishedPlaysAreRefused = (call : Call) (request : Request) (capacities : List ℕ) (named : List NamedSize) (program : AffineProgram) (moves : List TowerMove) (sizes : List ℤ)
+    (vertex : ℕ) (left : CallUse) (status : Status)
+    → ReadsMoves call request capacities named program moves → values_for program.parameters named ≡ Some sizes → AreMet program.assumptions sizes → IsWithinReach program sizes
+    → AreLegal (computation_graph program sizes) capacities moves
+    → IsFirstUnfinished (computation_graph program sizes) (length capacities) (tower_left (computation_graph program sizes) capacities moves) vertex
+    → Outcome status call left → IsUndisturbed left → EndsWith status left Refused (not_complete_line vertex)
 
 -- ---- calls that nothing disturbs
 

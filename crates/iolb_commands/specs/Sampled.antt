@@ -10,6 +10,7 @@ use Rattle.iolb_check.specs.Limits.{CertificateParts}
 use Rattle.iolb_model.specs.Bound.{bound_value, branch_value}
 use Rattle.iolb_model.specs.Headline.{BoundHolds}
 use Rattle.projective_bounds.specs.Certified.{IsCertified}
+use Rattle.iolb_commands.specs.Bounded.{IsKeptShort}
 use Rattle.iolb_commands.specs.Task.{bound_with}
 
 -- the size of the matrices, N, and how many red pebbles there are
@@ -43,14 +44,15 @@ IsOfOne products certificate values value = products ≡ 1 → IsCertified (prod
 abbrev pub IsOfSeveral : ℕ → ℕ → Type 0
 IsOfSeveral products value = 2 ≤ products → 4096 * min (2 * products) 16 ≤ value
 
--- A certificate meets the conditions for the program of so many products, its bound holds, it is as they are made for the program, and a
--- text has the greatest value of the branches that aren't wide with 64 red pebbles for matrices of 64 by 64 numbers.
+-- A certificate meets the conditions for the program of so many products, its bound holds, it is as they are made for the program, its text is kept
+-- short, and this text has the greatest value of the branches that aren't wide with 64 red pebbles for matrices of 64 by 64 numbers.
 pub record IsSampled (products : ℕ) (text note : List ℕ) : Type 0 where
   pub certificate : CertificateParts
   pub values : List (List Value)
   pub valid : MeetsConditions (product_program products) (claim_of_certificate certificate) values
   pub holds : BoundHolds (product_program products) (bound_with (product_program products) values)
   pub made : IsMadeFor (product_program products) certificate
+  pub short : IsKeptShort (product_program products) certificate
   pub value : ℕ
   pub greatest : IsGreatestNarrow values sample_sizes sample_memory value
   pub one : IsOfOne products certificate values value

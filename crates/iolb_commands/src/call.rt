@@ -29,10 +29,20 @@ fn stopped<E: Sink>(alloc: Global, names: &[String], stop: &Stop, err: &mut E) -
     }
 }
 
-/// Does what the words after the program's name ask for: `check PROGRAM CERTIFICATE` checks a certificate and prints its
-/// bound, `bound PROGRAM` makes a certificate and prints it, with its bound on the standard error, and `eval PROGRAM CERTIFICATE S NAME=NUMBER...` checks it and prints the values of the bound's branches, and its
-/// own, with S red pebbles at these sizes of the program's parameters. `replay PROGRAM SCHEDULE S NAME=NUMBER...` plays a
-/// schedule with S red pebbles at these sizes, and prints the moves and how many of them load, store and compute.
+/// Does what the words after the program's name ask for.
+///
+/// - `check PROGRAM CERTIFICATE` checks a certificate and prints its bound.
+/// - `bound PROGRAM` makes a certificate and prints it, with its bound on the standard error.
+/// - `eval PROGRAM CERTIFICATE S NAME=NUMBER...` checks it and prints the values of the bound's branches, and its own, with S red
+///   pebbles at these sizes of the program's parameters.
+/// - `parallel PROGRAM CERTIFICATE P S NAME=NUMBER...` prints its value for P processors with S red pebbles each.
+/// - `levels PROGRAM CERTIFICATE CAPS NAME=NUMBER...` prints a value for each boundary of fast levels of these capacities.
+/// - `traffic PROGRAM CERTIFICATE STORES S NAME=NUMBER...` checks stores too, and prints loads, stores and their sum.
+/// - `replay PROGRAM SCHEDULE S NAME=NUMBER...` plays a schedule with S red pebbles at these sizes, and prints the moves and how
+///   many of them load, store and compute.
+/// - `climb PROGRAM MOVES CAPS NAME=NUMBER...` plays moves over fast levels of these capacities, and prints what crosses each
+///   boundary.
+/// - `sample N` values a bound of N matrix products.
 pub fn run<F: Files, O: Sink, E: Sink>(
     alloc: Global,
     words: &Vec<String>,

@@ -1,6 +1,6 @@
 //! That a call has one outcome, that causes are answered, and that bounds are below plays.
 
-ghost use Rattle.iolb_commands.specs.Laws.{AbsentProgramsAreNamed, AbsentSecondFilesAreNamed, BoundsAreBelowPlays, CausesAreAnswered, CompletePlaysPass, FailingCertificatesAreRefused, OtherWordsAreRefused, OthersNeverPass, OutcomesAreOne, PlayableSchedulesPass, ReadableProgramsHaveCertificates, SamplesAreAnswered, SureCallsAreUndisturbed, UndisturbedCallsHaveNoFault, ValidCertificatesPass, ValidStoresPass};
+ghost use Rattle.iolb_commands.specs.Laws.{AbsentProgramsAreNamed, AbsentSecondFilesAreNamed, AbsentStoresAreNamed, BoundsAreBelowPlays, CausesAreAnswered, CompletePlaysPass, FailingCertificatesAreRefused, FailingStoresAreRefused, IllegalMovesAreRefused, OtherMovesAreRefused, OtherWordsAreRefused, OthersNeverPass, OutcomesAreOne, PlayableSchedulesPass, ReadableProgramsHaveCertificates, SamplesAreAnswered, SureCallsAreUndisturbed, UndisturbedCallsHaveNoFault, UnfinishedPlaysAreRefused, ValidCertificatesPass, ValidStoresPass};
 
 use affine_c::texts_mean_one_program;
 use iolb_cert::{texts_have_one_answer, texts_have_one_certificate};
@@ -46,14 +46,20 @@ pub fn outcomes_are_one()
 
 /// Laws of `run`'s outcomes, over files that tell what they hold, where no read and no write failed: what there is to say against
 /// a call is said, or memory is wanted. Words that ask for nothing give 2 and the usage text. A cause to stop gives its
-/// status and its line; so a file that isn't there, or is too long, gives 5 and its name, and a certificate of which a
-/// condition fails gives 1 and the first that does.
+/// status and its line; so a file that isn't there, or is too long, gives 5 and its name, a certificate of which a condition
+/// fails gives 1 and the first that does, and so do stores; a line that is none of a move gives 4 and its first byte, and a move
+/// that isn't allowed, or an instance that is left unfinished, gives 1 and the first such.
 pub fn causes_are_answered()
     ensures words { OtherWordsAreRefused }
     ensures causes { CausesAreAnswered }
     ensures programs { AbsentProgramsAreNamed }
     ensures seconds { AbsentSecondFilesAreNamed }
     ensures failing { FailingCertificatesAreRefused }
+    ensures thirds { AbsentStoresAreNamed }
+    ensures failing_stores { FailingStoresAreRefused }
+    ensures lines { OtherMovesAreRefused }
+    ensures illegal { IllegalMovesAreRefused }
+    ensures unfinished { UnfinishedPlaysAreRefused }
 {
     texts_mean_one_program();
     texts_have_one_certificate();

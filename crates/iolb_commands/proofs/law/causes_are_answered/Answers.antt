@@ -1,4 +1,4 @@
-use Rattle.iolb_commands.proofs.Causes.{absent_programs, absent_seconds, causes_answered, failing_refused, words_refused}
+use Rattle.iolb_commands.proofs.Causes.{absent_programs, absent_seconds, absent_stores, causes_answered, failing_refused, failing_stores, illegal_moves, other_moves, unfinished_plays, words_refused}
 use Rattle.iolb_commands.proofs.Ends.{AreExact}
 use Rattle.iolb_commands.proofs.law.causes_are_answered.Goals as goal
 
@@ -42,3 +42,18 @@ returns-clause-seconds c = absent_seconds (returns-clause-causes c)
 
 pub returns-clause-failing : goal.returns-clause-failing
 returns-clause-failing c = failing_refused (returns-clause-causes c)
+
+pub returns-clause-thirds : goal.returns-clause-thirds
+returns-clause-thirds c = absent_stores (returns-clause-causes c)
+
+pub returns-clause-failing_stores : goal.returns-clause-failing_stores
+returns-clause-failing_stores c = failing_stores (returns-clause-causes c)
+
+pub returns-clause-lines : goal.returns-clause-lines
+returns-clause-lines c = other_moves (returns-clause-causes c)
+
+pub returns-clause-illegal : goal.returns-clause-illegal
+returns-clause-illegal c = illegal_moves (returns-clause-causes c)
+
+pub returns-clause-unfinished : goal.returns-clause-unfinished
+returns-clause-unfinished c = unfinished_plays (returns-clause-causes c)
