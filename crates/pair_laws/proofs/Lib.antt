@@ -1,0 +1,5 @@
+pub mod TwoWords
+pub mod Brought
+pub mod Held
+pub mod Starts
+pub mod Loads
