@@ -11,15 +11,17 @@ use Rattle.iolb_check.specs.declared.term.Term.{Term}
 use Rattle.iolb_check.specs.declared.term.Term.TheVariants as terms
 use Rattle.projective_bounds.specs.Whole.{stretch_for}
 
--- the stretches of a term whose families weigh so much are those which make its bound strongest for its exponent
-abbrev pub AreBestStretches : ℕ → ℕ → ℕ → ℕ → Type 0
-AreBestStretches q weight a b = (a ≡ stretch_for q weight) × (b ≡ 0)
+-- The stretches of a term whose families weigh so much are those of one rule: a is q over what the weight is more, rounded down, 1 at least,
+-- and 16 where the weight is q; b is 0. (For a large memory the best a is that quotient, before it is rounded, and where the weight is q the
+-- greatest.)
+abbrev pub AreRuledStretches : ℕ → ℕ → ℕ → ℕ → Type 0
+AreRuledStretches q weight a b = (a ≡ stretch_for q weight) × (b ≡ 0)
 
 abbrev pub IsAsProposed : Term → Type 0
 IsAsProposed (terms.Cold cold) = ⊤
-IsAsProposed (terms.Partition partition) = AreBestStretches partition.q (weight_of (partition_of partition)) partition.a partition.b
+IsAsProposed (terms.Partition partition) = AreRuledStretches partition.q (weight_of (partition_of partition)) partition.a partition.b
 IsAsProposed (terms.Wavefront front) = ⊤
-IsAsProposed (terms.Joint joint) = AreBestStretches joint.q (joint_weight (joint_of joint)) joint.a joint.b
+IsAsProposed (terms.Joint joint) = AreRuledStretches joint.q (joint_weight (joint_of joint)) joint.a joint.b
 
 -- A branch that is proposed has a term, is within the limits of branches, and its partition and joint terms have such stretches.
 pub record IsProposal (branch : Branch) : Type 0 where

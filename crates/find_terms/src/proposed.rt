@@ -12,7 +12,7 @@ ghost use Rattle.joint_partition.specs.declared.term.JointFamily.{JointFamily as
 ghost use Rattle.k_partition.specs.TermLoads.{weight_of as weight_of_partition};
 ghost use Rattle.k_partition.specs.View.{partition_of};
 ghost use Rattle.find_terms.specs.Openings.{FindsOpening};
-ghost use Rattle.find_terms.specs.Proposed.{AreBestStretches, IsAsProposed, IsProposal, IsSmallOpening};
+ghost use Rattle.find_terms.specs.Proposed.{AreRuledStretches, IsAsProposed, IsProposal, IsSmallOpening};
 
 use crate::gathering::proposals;
 use crate::openings::opening;
@@ -114,7 +114,7 @@ fn within_limits(alloc: Global, branch: Branch) -> Result<Option<Branch>, Memory
 /// Whether a term whose families weigh so much has no events beside those for its red words, and as many for each of these as
 /// make its bound strongest for its exponent.
 fn are_best_stretches(q: u8, weight: u8, a: u8, b: u32) -> bool
-    ensures { IsTrue result → AreBestStretches q weight a b }
+    ensures { IsTrue result → AreRuledStretches q weight a b }
 {
     q <= weight && a == stretch_for(q, weight) && b == 0
 }
@@ -122,7 +122,7 @@ fn are_best_stretches(q: u8, weight: u8, a: u8, b: u32) -> bool
 /// Whether a partition term has such stretches.
 fn is_best_partition(term: &Partition) -> bool
     requires { IsSmallPartition term.now }
-    ensures { IsTrue result → AreBestStretches term.now.q (weight_of_partition (partition_of term.now)) term.now.a term.now.b }
+    ensures { IsTrue result → AreRuledStretches term.now.q (weight_of_partition (partition_of term.now)) term.now.a term.now.b }
 {
     are_best_stretches(term.q, weight_of(term.families.as_slice()), term.a, term.b)
 }
@@ -142,7 +142,7 @@ fn joint_weight(families: &[JointFamily]) -> u8
 /// Whether a joint term has such stretches.
 fn is_best_joint(term: &Joint) -> bool
     requires { IsSmallJoint term.now }
-    ensures { IsTrue result → AreBestStretches term.now.q (weight_of_joint (joint_of term.now)) term.now.a term.now.b }
+    ensures { IsTrue result → AreRuledStretches term.now.q (weight_of_joint (joint_of term.now)) term.now.a term.now.b }
 {
     are_best_stretches(
         term.q,
