@@ -42,17 +42,18 @@ dist:
 test:
 	rt ci
 
-# The pages' commands print what the pages say, the gallery is what the programs say, and the schemas of the package hold of the
-# shipped texts.
+# The pages' commands print what the pages say, the gallery is what the programs say, the schemas of the package hold of the
+# shipped texts, and every script says what it does.
 docs: built
 	bench/pages bin/iolb
 	bench/gallery bin
 	bench/schemas bin/iolb
+	bench/helps bin
 
 # What users call beside the programs: a script stands in share/iolb/scripts, and in bin is a link of its name with iolb- before it.
 # Folders hold what scripts import.
 scripts := bench/curve bench/stores bench/assumptions $(wildcard bench/report front/iolb-prepare)
-imported := $(wildcard front/prepare)
+imported := $(wildcard front/prepare) package/python/iolb
 called = iolb-$(patsubst iolb-%,%,$(notdir $(1)))
 
 binaries := $(DESTDIR)$(PREFIX)/bin
