@@ -107,21 +107,11 @@ class Stretches:
         return max(0, self.stretch(memory) * stretches - int(self.credits.value(sizes)))
 
     def factor(self):
-        """What is under the root of degree q of the leading term, which is the count times this root over S^(m/q - 1)."""
-        return Fraction(self.a**self.q * self.den, self.num * (1 + self.a) ** self.m)
+        """What stands under the root of degree q in the leading term, which is the count times this root over S^(m/q - 1)."""
+        return Fraction(self.a**self.q * self.den, self.num * (1 + self.a) ** self.m), self.q, Fraction(self.m, self.q) - 1
 
     def leading(self):
-        under, power = self.factor(), Fraction(self.m, self.q) - 1
-        root = self.exact_root(under)
-        count = self.count.leading()
-        front = str(count * Polynomial.constant(root)) if root is not None else "(%s)^(1/%d)*%s" % (under, self.q, bracketed(count))
-        front = "(%s)" % front if root is not None and ("+" in front[1:] or "-" in front[1:] or "/" in front) and power else front
-        return front + {Fraction(0): "", Fraction(1, 2): "/sqrt(S)", Fraction(1): "/S"}.get(power, "/S^(%s)" % power)
-
-    def exact_root(self, number):
-        """The root of degree q of a fraction, or None where it is no fraction."""
-        parts = [whole_root(it, self.q) for it in (number.numerator, number.denominator)]
-        return Fraction(*parts) if [it**self.q for it in parts] == [number.numerator, number.denominator] else None
+        return scaled(self.count.leading(), *self.factor())
 
     def text(self):
         stretch, most = self.parts("%d*S")
@@ -151,13 +141,30 @@ class Stretches:
         return r"\max\left(0,\ %s%s%s\right)" % (stretch, stretches, credits)
 
     def sympy(self):
-        stretch = "(%d*S + %d)" % (self.a, self.b)
-        most = "floor(root(floor(%d*(S + %s)**%d/Integer(%d)), %d))" % (self.num, stretch, self.m, self.den, self.q)
-        return "Max(0, %s*floor((%s - 1)/%s) - (%s))" % (stretch, sympy_of(self.count), most, sympy_of(self.credits))
+        stretch, whole = ("(%d*S + %d)" % it if it[1] else "%d*S" % it[0] for it in ((self.a, self.b), (self.a + 1, self.b)))
+        most = "floor(%d*(%s)**%d/Integer(%d))" % (self.num, whole, self.m, self.den)
+        most = most if self.q == 1 else "floor(root(%s, %d))" % (most, self.q)
+        return "Max(0, %s*floor((%s - 1)/%s) - %s)" % (stretch, sympy_of(self.count), most, sympy_of(self.credits))
 
     def facts(self):
         numbers = {name: getattr(self, name) for name in ("a", "b", "q", "den", "num", "m")}
         return {"kind": self.kind, "count": str(self.count), "credits": str(self.credits), **numbers}
+
+
+def exact_root(number, degree):
+    """The root of a fraction, or None where it is no fraction."""
+    parts = [whole_root(it, degree) for it in (number.numerator, number.denominator)]
+    return Fraction(*parts) if [it**degree for it in parts] == [number.numerator, number.denominator] else None
+
+
+def scaled(count, under, degree, power):
+    """A count times the root of a fraction, over a power of S, as a text."""
+    root = exact_root(under, degree)
+    below = {Fraction(0): "", Fraction(1, 2): "/sqrt(S)", Fraction(1): "/S"}.get(power, "/S^(%s)" % power)
+    if root is None:
+        return "(%s)^(1/%d)*%s%s" % (under, degree, bracketed(count), below)
+    front = str(count * Polynomial.constant(root))
+    return ("(%s)" % front if below and re.search(r".[-+/]", front) else front) + below
 
 
 def bracketed(polynomial):
@@ -206,12 +213,15 @@ class Branch:
         return sum(term.value(memory, sizes) for term in self.terms)
 
     def leading(self):
-        """The leading terms: those that S divides first, with what has no S in it."""
-        found = []
+        """What it comes to where the parameters are great, and S too but far below them: terms with S, and the greatest without."""
+        plain, roots = Polynomial(), {}
         for term in self.terms:
-            if term.leading() not in ("0", *found):
-                found.append(term.leading())
-        return " + ".join(found) or "0"
+            if isinstance(term, Stretches):
+                roots[term.factor()] = roots.get(term.factor(), Polynomial()) + term.count.leading()
+            else:
+                plain += term.count
+        found = [scaled(count, *factor) for factor, count in roots.items()]
+        return " + ".join(found + ([str(plain.leading())] if plain.degree() or not found else []))
 
     def sympy(self):
         return " + ".join(term.sympy() for term in self.terms) or "Integer(0)"

@@ -33,7 +33,7 @@ def read_rows(lines):
 
 def short(number):
     """A number of an axis, with a unit of thousands."""
-    for unit, size in (("G", 10**9), ("M", 10**6), ("k", 10**3)):
+    for unit, size in (("E", 10**18), ("P", 10**15), ("T", 10**12), ("G", 10**9), ("M", 10**6), ("k", 10**3)):
         if number >= size:
             return "%g%s" % (float("%.3g" % (number / size)), unit)
     return "%g" % number
@@ -92,7 +92,7 @@ def legend(entries):
     parts = []
     for place, (name, colour) in enumerate(entries):
         y = TOP + 20 + 17 * place
-        x = WIDTH - RIGHT - 190
+        x = WIDTH - RIGHT - 232
         parts.append('<line x1="%s" y1="%s" x2="%s" y2="%s" stroke="%s" stroke-width="3"/>' % (x, y - 4, x + 22, y - 4, colour))
         parts.append(text(x + 28, y, name))
     return parts

@@ -11,6 +11,7 @@ from dataclasses import dataclass
 
 from iolb.bounds import Bound
 from iolb.command import Fault
+from iolb.sizes import whole
 
 HERE = os.path.dirname(os.path.realpath(__file__))
 
@@ -50,13 +51,68 @@ def kept(text, name):
         yield path
 
 
+def numbers_of(sizes):
+    """Sizes by name as whole numbers: texts such as `64K` and numbers such as 1e6 are told."""
+    return {name: number_of(size) for name, size in sizes.items()}
+
+
+def number_of(size):
+    """The whole number that a text such as `64KiB/8`, or a number such as 1e6, says."""
+    if isinstance(size, str):
+        return -whole(size[1:]) if size.startswith("-") else whole(size)
+    if int(size) != size:
+        raise Fault("%s isn't a whole number" % size)
+    return int(size)
+
+
 @dataclass(frozen=True)
 class Made:
-    """A bound that `iolb bound` made for a program, with its certificate, which `iolb check` decides about."""
+    """A bound that `iolb bound` made for a program, with its certificate, which `iolb check` decides about.
+
+    S and sizes are whole numbers, or texts such as `64KiB/8`, `32K` or `1e6`; the sizes of parameters are named: `N=1000`.
+    """
 
     program: str
     certificate: str
     bound: Bound
+
+    def value(self, memory, **sizes):
+        """The bound with so many words of fast memory: no execution loads fewer words. Faults where an assumption isn't met."""
+        return self.bound.value(number_of(memory), numbers_of(sizes))
+
+    def values(self, memory, **sizes):
+        """The value of each branch; the greatest is the bound."""
+        return self.bound.values(number_of(memory), numbers_of(sizes))
+
+    def table(self, memories, **sizes):
+        """For each number of words a row: `S`, `bound`, the `branch` that wins, and each branch's value in `branches`."""
+        return self.bound.table([number_of(it) for it in memories], numbers_of(sizes))
+
+    def formula(self, form="text"):
+        """The bound as a formula: `text`, `latex`, `sympy` or `json`."""
+        return self.bound.formula(form)
+
+    def leading(self):
+        """For each branch its leading term: what it comes to where sizes are great, and S too but far below them."""
+        return [branch.leading() for branch in self.bound.branches]
+
+    def expression(self):
+        """The bound as an expression of SymPy over S and the parameters, which are positive whole numbers there. It has the
+        exact value, where assumptions are met."""
+        import sympy
+
+        names = {name: sympy.Symbol(name, integer=True, positive=True) for name in ("S", *self.bound.parameters())}
+        return sympy.sympify(self.bound.formula("sympy"), locals=names)
+
+    def plot(self, memories, schedules=(), axes=None, **sizes):
+        """Draws the bound, and the loads of schedules, which are paths of files, over S, into axes of matplotlib, which it gives."""
+        from iolb.plots import drawn
+
+        return drawn(self, [number_of(it) for it in memories], schedules, axes, numbers_of(sizes))
+
+    def _repr_latex_(self):
+        """What notebooks show."""
+        return "$\\displaystyle %s$" % self.formula("latex")
 
     def checked(self):
         """What `iolb check` prints of the certificate, where it accepts it: the bound once more."""
@@ -75,7 +131,7 @@ class Made:
             words = ["compare", "json", path, made, *schedules, ",".join(map(str, memories)), *given]
             said, error = called("iolb-explain", *words, statuses=(0, 1))
         rows = [json.loads(line) for line in said.splitlines() if line.startswith("{")]
-        if not rows and schedules:
+        if not rows:
             raise Fault((said + error).replace(path, "the program").strip() or "the schedules weren't played")
         return rows
 
@@ -134,7 +190,7 @@ def listing(program):
     for place, line in enumerate(lines):
         one, read = STATEMENT.fullmatch(line), READ.fullmatch(line)
         if one:
-            loops = () if one[4] == "none" else tuple(one[4].split(", "))
+            loops = () if one[4] == "none" else tuple(it.split()[0] for it in one[4].split(", "))
             statements.append([int(one[1]), int(one[2]), one[3], loops, []])
         if read:
             statements[-1][4].append(Read(int(read[1]), int(read[2]), read[3]))
