@@ -36,9 +36,6 @@ class Cold:
     def value(self, memory, sizes):
         return int(self.count.value(sizes))
 
-    def leading(self):
-        return str(self.count.leading())
-
     def text(self):
         return str(self.count)
 
@@ -62,9 +59,6 @@ class Wavefront:
 
     def value(self, memory, sizes):
         return max(0, int(self.count.value(sizes) - memory * self.outer.value(sizes)))
-
-    def leading(self):
-        return str(self.count.leading())
 
     def text(self):
         return "max(0, %s - S*(%s))" % (self.count, self.outer)

@@ -35,12 +35,6 @@ def called(name, *words, statuses=(0,)):
     return done.stdout, done.stderr
 
 
-def explained(path):
-    """Why a program isn't read, in the words of `iolb-explain`."""
-    done = subprocess.run([found("iolb-explain"), "program", path], capture_output=True, text=True, errors="replace")
-    return done.stdout.strip() if done.returncode == 1 else ""
-
-
 @contextlib.contextmanager
 def kept(text, name):
     """A file with a text, as long as it is needed."""
@@ -139,10 +133,9 @@ class Made:
 def bound(program):
     """The bound of a program, which is the text of a C file; a fault, in words, where it isn't read."""
     with kept(program, "program.c") as path:
-        try:
-            certificate, printed = called("iolb", "bound", path)
-        except Fault as why:
-            raise Fault(explained(path).replace(path, "program.c") or str(why)) from why
+        certificate, printed = called("iolb", "bound", path, statuses=(0, 3))
+        if not certificate:
+            raise Fault(called("iolb-explain", "program", path, statuses=(1,))[0].strip().replace(path, "program.c"))
     return Made(program, certificate, Bound.of(printed))
 
 

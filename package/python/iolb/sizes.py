@@ -21,7 +21,7 @@ def parts_of(text):
         if base > MOST or power > 63:
             raise Fault("%s is too great" % text)
         return Fraction(base**power * UNITS[unit]), unit.endswith("B"), by
-    if len(written) > 40 or int(re.sub(r".*[eE]|.*", "", written) or 0) > 40:
+    if len(written) > 40 or int(written.lower().partition("e")[2] or 0) > 40:
         raise Fault("%s is too great" % text)
     return Fraction(written) * UNITS[unit], unit.endswith("B"), by
 
