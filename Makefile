@@ -1,4 +1,5 @@
 PREFIX ?= /usr/local
+PYTHON ?= /usr/bin/python3
 
 # The two programs and the libraries that they stand on, the lowest first; what only cases use is the gate's.
 parts := $(shell awk -F: '/^[a-z]/ { below[$$1] = $$2 } \
@@ -42,17 +43,20 @@ dist:
 test:
 	rt ci
 
-# The pages' commands print what the pages say, the gallery is what the programs say, and the schemas of the package hold of the
-# shipped texts.
+# The pages' commands print what the pages say, the gallery is what the programs say, the schemas of the package hold of the
+# shipped texts, every script says what it does, and the tests of the Python module pass: those of SymPy, matplotlib and a picture of
+# a report in headless Chromium where Debian's python3-sympy, python3-matplotlib and chromium are installed.
 docs: built
 	bench/pages bin/iolb
 	bench/gallery bin
 	bench/schemas bin/iolb
+	bench/helps bin
+	$(PYTHON) -m unittest discover -s package/python/tests
 
 # What users call beside the programs: a script stands in share/iolb/scripts, and in bin is a link of its name with iolb- before it.
 # Folders hold what scripts import.
 scripts := bench/curve bench/stores bench/assumptions $(wildcard bench/report front/iolb-prepare)
-imported := $(wildcard front/prepare)
+imported := $(wildcard front/prepare) package/python/iolb
 called = iolb-$(patsubst iolb-%,%,$(notdir $(1)))
 
 binaries := $(DESTDIR)$(PREFIX)/bin
