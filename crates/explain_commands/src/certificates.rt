@@ -1,6 +1,10 @@
 //! Certificates, and the bounds that they give.
 
 ghost use Rattle.std.specs.Prelude.{◌≡◌, IfOk};
+ghost use Rattle.affine_program.specs.Parts.{meaning};
+ghost use Rattle.iolb_cert.specs.OneCertificate.{HasCertificate};
+ghost use Rattle.iolb_check.specs.Claims.{claim_of_certificate};
+ghost use Rattle.iolb_check.specs.Conditions.{MeetsConditions};
 
 use crate::stop::Stop;
 use affine_program::Program;
@@ -67,7 +71,9 @@ impl Given<'_> {
     }
 
     /// The certificate that the text has.
-    pub(crate) fn certificate(self, alloc: Global) -> Result<Certificate, Stop> {
+    pub(crate) fn certificate(self, alloc: Global) -> Result<Certificate, Stop>
+        ensures { IfOk result (λ certificate. HasCertificate self.text.now (claim_of_certificate certificate)) }
+    {
         match read_certificate(alloc, self.text) {
             Ok(certificate) => Ok(certificate),
             Err(CertError::Fault(fault)) => Err(self.unread(alloc, &fault)),
@@ -82,7 +88,8 @@ impl Given<'_> {
         program: &Program,
         certificate: &Certificate,
     ) -> Result<Bound, Stop>
-        ensures { IfOk result (λ bound. bound.assumed ≡ program.now.assumed) }
+        ensures assumed { IfOk result (λ bound. bound.assumed ≡ program.now.assumed) }
+        ensures meets { IfOk result (λ bound. MeetsConditions (meaning program.now) (claim_of_certificate certificate.now) bound.branches) }
     {
         match check(alloc, program, certificate) {
             Ok(bound) => Ok(bound),

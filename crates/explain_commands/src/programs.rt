@@ -1,5 +1,9 @@
 //! Programs, explained.
 
+ghost use Rattle.std.specs.Prelude.{IfOk};
+ghost use Rattle.affine_program.specs.Parts.{meaning};
+ghost use Rattle.c_grammar.specs.Program.{Means};
+
 use crate::stop::Stop;
 use affine_c::{ProgramError, ProgramFault, read_program};
 use affine_program::Program;
@@ -20,7 +24,9 @@ fn fault_stop(alloc: Global, file: &str, text: &[u8], fault: ProgramFault) -> St
 }
 
 /// The program that the file of this name has as its text.
-pub(crate) fn program_in(alloc: Global, file: &str, text: &[u8]) -> Result<Program, Stop> {
+pub(crate) fn program_in(alloc: Global, file: &str, text: &[u8]) -> Result<Program, Stop>
+    ensures { IfOk result (λ program. Means text.now (meaning program)) }
+{
     match read_program(alloc, text) {
         Ok(program) => Ok(program),
         Err(ProgramError::Fault(fault)) => Err(fault_stop(alloc, file, text, fault)),

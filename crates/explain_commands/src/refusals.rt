@@ -1,5 +1,8 @@
 //! Refusals of certificates, explained.
 
+ghost use Rattle.std.specs.Prelude.{◌≡◌, ◌++◌, codes, IfOk};
+ghost use Rattle.explain_commands.specs.Refusals.{MeetsAll};
+
 use crate::certificates::Given;
 use crate::programs::program_in;
 use crate::stop::Stop;
@@ -12,7 +15,10 @@ pub(crate) fn refusal_answer(
     file: &str,
     text: &[u8],
     given: Given<'_>,
-) -> Result<Page, Stop> {
+) -> Result<Page, Stop>
+    ensures meets { IfOk result (λ page. MeetsAll text.now given.text.now) }
+    ensures says { IfOk result (λ page. page ≡ given.name.now ++ codes " meets all conditions\n") }
+{
     let program = program_in(alloc, file, text)?;
     let certificate = given.certificate(alloc)?;
     let _bound = given.bound(alloc, &program, &certificate)?;

@@ -92,12 +92,11 @@ class Stretches:
         return self.a * memory + self.b
 
     def most(self, memory):
-        """U, the points that a stretch computes at most."""
-        return whole_root(self.num * (memory + self.stretch(memory)) ** self.m // self.den, self.q)
+        """U, the points that a stretch computes at most, one at least."""
+        return max(1, whole_root(self.num * (memory + self.stretch(memory)) ** self.m // self.den, self.q))
 
     def value(self, memory, sizes):
-        most = self.most(memory)
-        stretches = int(self.count.value(sizes) - 1) // most if most else 0
+        stretches = int(self.count.value(sizes) - 1) // self.most(memory)
         return max(0, self.stretch(memory) * stretches - int(self.credits.value(sizes)))
 
     def factor(self):
@@ -137,7 +136,7 @@ class Stretches:
     def sympy(self):
         stretch, whole = ("(%d*S + %d)" % it if it[1] else "%d*S" % it[0] for it in ((self.a, self.b), (self.a + 1, self.b)))
         most = "floor(%d*(%s)**%d/Integer(%d))" % (self.num, whole, self.m, self.den)
-        most = most if self.q == 1 else "floor(root(%s, %d))" % (most, self.q)
+        most = "Max(1, %s)" % (most if self.q == 1 else "floor(root(%s, %d))" % (most, self.q))
         return "Max(0, %s*floor((%s - 1)/%s) - %s)" % (stretch, sympy_of(self.count), most, sympy_of(self.credits))
 
     def facts(self):
