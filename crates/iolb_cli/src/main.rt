@@ -1,5 +1,5 @@
-//! The program `iolb`: checks certificates of lower bounds on the loads of affine loop nests, evaluates them, and plays
-//! schedules of the nests.
+//! The program `iolb`: makes certificates of lower bounds on the loads of affine loop nests, checks and evaluates them, for one
+//! processor, several, or levels of memory, with stores beside them, and plays schedules of the nests and moves over levels of memory.
 #![tactic(auto)]
 
 use iolb_commands::{called, finished, no_memory};

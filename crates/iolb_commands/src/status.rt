@@ -8,13 +8,13 @@ ghost use Rattle.iolb_commands.specs.Status.{status_number};
 pub enum Status {
     /// The job is done, and all was written.
     Done,
-    /// The certificate fails a condition, the schedule can't be played, or an assumption is false.
+    /// The certificate or the stores fail a condition, the schedule or the moves can't be played, or an assumption is false.
     Refused,
     /// The words of the command line ask for nothing that the program does.
     Words,
     /// The program's text has a fault.
     ProgramText,
-    /// The text of the certificate or the schedule has a fault.
+    /// The text of the certificate, the schedule, the moves or the stores has a fault.
     OtherText,
     /// A file is missing or too long.
     FileAbsent,
