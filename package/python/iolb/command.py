@@ -39,14 +39,16 @@ def told(why):
     return str(why) or type(why).__name__
 
 
-def call(main, page, least=0, most=None, script=None):
+def call(main, page, least=0, most=None):
     """Runs a script's main function over its words, and ends with the status that it gives.
 
-    `-h` and `--help` print the page, with status 0. Fewer words than `least`, or more than `most`, are answered by the page on the
+    `-h` and `--help` print the page, with the name that an installed script has, and status 0. Fewer words than `least`, or more than `most`, are answered by the page on the
     standard error and status 2; a fault, a file that isn't there and a program that ends otherwise than it should, by one line
     and status 3.
     """
-    words = sys.argv[1:]
+    words, name = sys.argv[1:], os.path.basename(sys.argv[0])
+    if name.startswith("iolb-"):
+        page = page.replace("bench/" + name[5:], name)
     if "--help" in words or "-h" in words:
         print(page.strip())
         sys.exit(0)
@@ -60,7 +62,7 @@ def call(main, page, least=0, most=None, script=None):
         os.dup2(os.open(os.devnull, os.O_WRONLY), 1)
         status = 3
     except (Fault, OSError, ValueError, subprocess.CalledProcessError) as why:
-        print("%s: %s" % (script or os.path.relpath(sys.argv[0]), told(why)), file=sys.stderr)
+        print("%s: %s" % (name if name.startswith("iolb-") else os.path.relpath(sys.argv[0]), told(why)), file=sys.stderr)
         status = 3
     except KeyboardInterrupt:
         status = 130

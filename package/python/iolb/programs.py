@@ -17,9 +17,10 @@ HERE = os.path.dirname(os.path.realpath(__file__))
 
 
 def found(name):
-    """The path of a program: in the folder that IOLB_BIN names, in the repository's bin/, or in PATH."""
+    """The path of a program: in the folder that IOLB_BIN names, in the repository's bin/, in PATH, or beside an installed script."""
     named = os.environ.get("IOLB_BIN")
-    places = [os.path.join(named, name)] if named else [os.path.join(HERE, "../../../bin", name), shutil.which(name)]
+    beside = [os.path.join(HERE, "../../../bin", name), shutil.which(name), os.path.join(HERE, "../../../../bin", name)]
+    places = [os.path.join(named, name)] if named else beside
     for path in filter(None, places):
         if os.access(path, os.X_OK):
             return os.path.normpath(path)
