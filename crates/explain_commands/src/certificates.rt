@@ -72,7 +72,7 @@ impl Given<'_> {
 
     /// The certificate that the text has.
     pub(crate) fn certificate(self, alloc: Global) -> Result<Certificate, Stop>
-        ensures { IfOk result (λ certificate. HasCertificate self.text.now (claim_of_certificate certificate)) }
+        ensures { IfOk result (λ certificate. HasCertificate self.entry.text.now (claim_of_certificate certificate)) }
     {
         match read_certificate(alloc, self.text) {
             Ok(certificate) => Ok(certificate),

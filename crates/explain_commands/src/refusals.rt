@@ -16,8 +16,8 @@ pub(crate) fn refusal_answer(
     text: &[u8],
     given: Given<'_>,
 ) -> Result<Page, Stop>
-    ensures meets { IfOk result (λ page. MeetsAll text.now given.text.now) }
-    ensures says { IfOk result (λ page. page ≡ given.name.now ++ codes " meets all conditions\n") }
+    ensures meets { IfOk result (λ page. MeetsAll text.now given.entry.text.now) }
+    ensures says { IfOk result (λ page. page ≡ given.entry.name.now ++ codes " meets all conditions\n") }
 {
     let program = program_in(alloc, file, text)?;
     let certificate = given.certificate(alloc)?;
