@@ -1,7 +1,7 @@
 """C that logs what a nest reads and writes: the nest is rewritten, each read and write of a value with its address, and run over
 memory of its own. What is address arithmetic alone (`data` says of which whole variables that isn't so) isn't logged."""
 
-from .reading import ARRAYS, Kind, Type, WHOLE, sort_of
+from .reading import Type, WHOLE, sort_of
 from .values import PURE
 
 HEAD = r"""
@@ -21,14 +21,14 @@ class Logger:
     """Rewrites statements of one nest; `numbers` tells variables apart."""
 
     def __init__(self, source, lowering):
-        self.source, self.lowering, self.numbers, self.inlined = source, lowering, {}, {}
+        self.source, self.lowering, self.numbers, self.inlined, self.given = source, lowering, {}, {}, set()
 
     def number(self, it):
         return self.numbers.setdefault(it, len(self.numbers) + 1)
 
     def is_index(self, it):
         """Whether a variable is address arithmetic."""
-        return it.sort == "pointer" or it.sort == "whole" and it.key not in self.lowering.data and it.key in self.lowering.assigned
+        return it.sort == "pointer" or it.sort == "whole" and it.key not in self.lowering.data and (it.key in self.lowering.assigned or it in self.given)
 
     def around(self, node, rewritten):
         """The node's text with its kids' new texts in their places."""
@@ -123,7 +123,7 @@ class Logger:
         body = self.lowering.callee(node)
         if body is None:
             raise Unlogged("a call")
-        self.inlined[name] = None
+        self.given.update(body[0])
         self.inlined[name] = (body[1], self.statement(body[1]))
         given = []
         for it, kid in zip(body[0], node.kids[1:]):

@@ -5,6 +5,13 @@ from .nest import Guard, Loop, Pointer, UNKNOWN
 from .reading import Node
 
 
+class Later:
+    """A form that holds where its row does: the value behind a loop whose turns aren't fewer than none."""
+
+    def __init__(self, form, row):
+        self.form, self.row = form, row
+
+
 def is_unit(form):
     return form is not None and form.is_number() and abs(form.constant()) == 1
 
@@ -22,7 +29,8 @@ class Loops:
         start = {key: self.current(it) for key, it in changed.items()}
         counter = self.counter(changed, moves, start, condition)
         if counter is None:
-            self.refuse(node, "a loop whose variable doesn't move by the same in each turn")
+            on_data = any(it.kind == "name" and it.declaration.key in self.data for it in condition.walk())
+            self.refuse(node, "a loop whose condition depends on data" if on_data else "a loop whose variable doesn't move by the same in each turn")
             self.lose(changed)
             return
         if swaps:
@@ -74,7 +82,7 @@ class Loops:
         mine, keys = set(heads.values()), {head: key for key, head in heads.items()}
         moves, swaps = {}, {}
         for key, head in heads.items():
-            end = ends.get(key)
+            end = self.settled(ends.get(key))
             moves[key] = None
             if isinstance(end, Form):
                 by = end - Form.of(head)
@@ -87,6 +95,14 @@ class Loops:
             if not by.names() & mine and by.loops() <= set(self.open):
                 moves[key] = by
         return moves, {key: other for key, other in swaps.items() if swaps.get(other) == key}
+
+    def settled(self, end):
+        """What a variable is at the end of a turn; where a loop in it was counted, that its turns aren't fewer than none is needed."""
+        if not isinstance(end, Later):
+            return end
+        if not self.dry:
+            self.needs.append((end.row, "a loop doesn't end before it begins"))
+        return end.form
 
     def counter(self, changed, moves, start, condition):
         """The variable by which the turns are counted: one of the condition, moving by one if there is such a one."""
@@ -147,7 +163,6 @@ class Loops:
 
     def end(self, changed, moves, start, turns, condition):
         """The variables behind the loop, where the turns are told; the condition is asked once more."""
-        from .lowering import Later
         if turns is not None and (not turns.is_number() or turns.constant() >= 0) and turns.of_sizes():
             self.bind(changed, moves, start, turns)
             self.dry += 1

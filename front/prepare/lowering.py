@@ -2,20 +2,13 @@
 
 from .conditions import Conditions
 from .forms import Form, ONE, ZERO, fresh
-from .loops import Loops
+from .loops import Later, Loops
 from .nest import Cell, Guard, Loop, Pointer, Statement, UNKNOWN
 from .sizes import Sizes
 from .values import Data, PURE, Values, has_effects
 
 SENTENCES = {"return": "a return", "break": "a break", "continue": "a continue that isn't the end of an if", "goto": "a goto",
              "label": "a label", "switch": "a switch", "asm": "assembly", "unknown": "a statement that isn't read"}
-
-
-class Later:
-    """A form that holds where its row does: the value behind a loop whose turns aren't fewer than none."""
-
-    def __init__(self, form, row):
-        self.form, self.row = form, row
 
 
 class Lowering(Values, Conditions, Loops):
@@ -117,7 +110,10 @@ class Lowering(Values, Conditions, Loops):
         self.dry -= 1
 
     def set_before(self, node):
-        node = node.kids[0] if node.kind == "declare" and len(node.kids) == 1 else node
+        if node.kind == "declare":
+            for it in node.kids:
+                self.set_before(it)
+            return
         target = node if node.kind == "variable" else node.kids[0] if node.kind == "assign" and node.op == "=" else None
         simple = target is not None and (target.kind == "variable" or target.kind == "name") and node.kids
         given = node.kids[-1] if simple else None
@@ -195,8 +191,8 @@ class Lowering(Values, Conditions, Loops):
         before, ends = dict(self.env), []
         for lists, arm in zip(cases, (one, other)):
             for rows in lists:
-                kept = [(op, row) for op, row in rows if not settled(op, row, True)]
-                if any(settled(op, row, False) for op, row in rows):
+                kept = [(op, row) for op, row in rows if not decided(op, row, True)]
+                if any(decided(op, row, False) for op, row in rows):
                     continue
                 self.env = dict(before)
                 self.guarded += 1
@@ -421,7 +417,7 @@ def same(one, other):
     return type(one) is type(other) and one == other
 
 
-def settled(op, row, held):
+def decided(op, row, held):
     """Whether a row of numbers alone is `held`."""
     return row.is_number() and (row.constant() >= 0 if op == ">=" else row.constant() == 0) == held
 

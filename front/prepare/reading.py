@@ -18,6 +18,9 @@ except ImportError:
 Kind = cindex.CursorKind
 Type = cindex.TypeKind
 
+# What libclang says of itself, so that headers keep to what it reads.
+OLDER = ["-U__GNUC__", "-D__GNUC__=4", "-U__GNUC_MINOR__", "-D__GNUC_MINOR__=2"]
+
 WHOLE = {Type.BOOL, Type.CHAR_U, Type.UCHAR, Type.CHAR16, Type.CHAR32, Type.USHORT, Type.UINT, Type.ULONG, Type.ULONGLONG, Type.CHAR_S,
          Type.SCHAR, Type.WCHAR, Type.SHORT, Type.INT, Type.LONG, Type.LONGLONG, Type.ENUM, Type.INT128, Type.UINT128}
 ARRAYS = {Type.CONSTANTARRAY, Type.INCOMPLETEARRAY, Type.VARIABLEARRAY, Type.DEPENDENTSIZEDARRAY}
@@ -114,7 +117,7 @@ class Source:
         with tempfile.TemporaryDirectory() as folder, open(self.path, encoding="latin-1") as file:
             body = keep_constants(file.read(), self.constants)
             while True:
-                call = ["cc", "-E", "-xc", "-idirafter", folder, "-iquote", os.path.dirname(self.path) or ".", *options, "-"]
+                call = ["cc", "-E", "-xc", *OLDER, "-idirafter", folder, "-iquote", os.path.dirname(self.path) or ".", *options, "-"]
                 done = subprocess.run(call, input=f'#line 1 "{self.path}"\n{body}', capture_output=True, text=True, encoding="latin-1")
                 found = re.search(r"error: '?([^\s:']+)'?(?:: No such file| file not found)", done.stderr)
                 if not found or found.group(1) in self.missing or len(self.missing) > 200:
