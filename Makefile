@@ -7,7 +7,7 @@ parts := $(shell awk -F: '/^[a-z]/ { below[$$1] = $$2 } \
 	for (i = 1; i <= n; i++) visit(names[i]); print it } END { visit("iolb_cli"); visit("iolb_explain") }' crates.txt)
 sources := crates.txt HANDLES $(shell find $(parts:%=crates/%) \( -name '*.rt' -o -name '*.antt' \) -not -path '*/out/*')
 
-.PHONY: all quick first built dist test docs install uninstall clean
+.PHONY: all quick first built dist test docs front install uninstall clean
 
 all: bin/PROVED.txt bin/iolb bin/iolb-explain
 
@@ -52,6 +52,10 @@ docs: built
 	bench/schemas bin/iolb
 	bench/helps bin
 	$(PYTHON) -m unittest discover -s package/python/tests
+
+# Nests of ordinary C are run, and compared with the programs that iolb-prepare writes for them; FOLDERS of further C may be named.
+front: built
+	front/check-nests bin/iolb front/nests $(FOLDERS)
 
 # What users call beside the programs: a script stands in share/iolb/scripts, and in bin is a link of its name with iolb- before it.
 # Folders hold what scripts import.
