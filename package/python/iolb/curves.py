@@ -87,19 +87,19 @@ def frame(across, up):
     return parts
 
 
-def legend(entries):
-    """The names of the lines, in the corner that curves that fall leave free."""
+def legend(entries, room):
+    """The names of the lines, in the corner that curves that fall leave free, with so much room from the right."""
     parts = []
     for place, (name, colour) in enumerate(entries):
         y = TOP + 20 + 17 * place
-        x = WIDTH - RIGHT - 232
+        x = WIDTH - RIGHT - room
         parts.append('<line x1="%s" y1="%s" x2="%s" y2="%s" stroke="%s" stroke-width="3"/>' % (x, y - 4, x + 22, y - 4, colour))
         parts.append(text(x + 28, y, name))
     return parts
 
 
-def picture(title, bound, loads):
-    """The whole picture."""
+def picture(title, bound, loads, room=190):
+    """The whole picture; the legend has so much room from the right."""
     sizes = sorted(bound)
     numbers = [bound[s] for s in sizes] + [n for line in loads.values() for n in line.values()]
     across = Axis(sizes[0], sizes[-1], LEFT, WIDTH - RIGHT)
@@ -116,7 +116,7 @@ def picture(title, bound, loads):
         parts.append(line_of(points, colour, 1.6))
         parts += ['<circle cx="%s" cy="%s" r="3" fill="%s"/>' % (x, y, colour) for x, y in points]
     parts.append(line_of(curve, "#222", 2.4))
-    parts += legend(entries)
+    parts += legend(entries, room)
     parts.append(text(LEFT, 24, title, ' font-size="15" font-weight="bold"'))
     head = '<svg xmlns="http://www.w3.org/2000/svg" width="%d" height="%d" viewBox="0 0 %d %d" font-family="sans-serif" font-size="12">'
     ground = '<rect width="%d" height="%d" fill="white"/>' % (WIDTH, HEIGHT)

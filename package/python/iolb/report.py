@@ -20,6 +20,7 @@ td { white-space: nowrap; } th { background: #f0f0f0; } td.name, th.name { text-
 mark { padding: .05em .15em; border-radius: .2em; } mark sup { font-size: .65em; line-height: 0; }
 mark.none { background: none; border-bottom: 2px dotted #c0392b; } math { font-size: 1.1em; } details { margin: .5em 0; }
 """
+LEGEND = 232  # browsers' fonts are wide
 SHADES = ["#cfe3f5", "#fbdcc4", "#d5ecd0", "#e9d7f1", "#fbf0b8", "#d1eeee", "#f6d1d8", "#e3e0d3"]
 
 
@@ -293,16 +294,20 @@ def table(report):
     return "<h2>Over the size of the memory</h2>\n<table>\n%s\n</table>\n%s%s" % ("\n".join(lines), words % (given, report.word), notes)
 
 
-def picture(report):
-    """The bound and the schedules as curves."""
-    bound = {row["S"]: row["bound"] for row in report.rows}
+def lines_of(report):
+    """The bound at each S, and each schedule's loads."""
     loads = {}
     for row in report.plays:
         line = loads.setdefault(short(row["schedule"]), {})
         if row["loads"] is not None:
             line[row["S"]] = row["loads"]
+    return {row["S"]: row["bound"] for row in report.rows}, loads
+
+
+def picture(report):
+    """The bound and the schedules as curves."""
     title = "%s%s" % (report.name, ", " + report.given if report.given else "")
-    return "<h2>Picture</h2>\n" + curves.picture(title, bound, loads)
+    return "<h2>Picture</h2>\n" + curves.picture(title, *lines_of(report), LEGEND)
 
 
 def intensity(report):
