@@ -143,3 +143,13 @@ void over_rows(int n, double g[20][20])
     for (int i = 0; i < n; i++)
         p[i] = g[i][i];
 }
+
+// refused: if on data
+void on_local_data(int n, double *a)
+{
+    for (int i = 0; i < n; i++) {
+        double t = a[i];
+        if (t > 0)
+            a[i] = 0;
+    }
+}

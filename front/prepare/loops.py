@@ -139,8 +139,10 @@ class Loops:
                 return
         self.bind(changed, moves, start, turn)
         self.open.append(name)
-        limits, entries, inside = self.limits(node, self.condition(condition), name, first, upward)
-        inside += [(">=", Form.of(name) - it if upward else it - Form.of(name)) for it in (extra[2] if extra else [])]
+        limits, entries = self.limits(node, self.condition(condition), name, first, upward)
+        if entries and extra is not None:
+            self.refuse(node, "a loop that begins at a least or greatest value")
+        inside = [(">=", Form.of(name) - it if upward else it - Form.of(name)) for it in (extra[2] if extra else [])]
         inside += [(">=", it - Form.of(name) if upward else Form.of(name) - it) for it in limits[1:]]
         self.guarded += bool(entries or inside)
         made = self.collected(lambda: self.rest_of_turn(step, body))
@@ -178,17 +180,17 @@ class Loops:
             self.env[key] = start[key] if moves[key] == ZERO else UNKNOWN
 
     def limits(self, node, cases, name, first, upward):
-        """(last values, all of which hold; rows for the loop as a whole; rows for each turn)."""
+        """(last values, all of which hold; rows for the loop as a whole)."""
         if cases is None:
             self.refuse(node, "a loop whose condition depends on data")
-            return [ZERO], [], []
+            return [ZERO], []
         lists = cases[0]
         if len(lists) == 2 and all(len(rows) == 1 for rows in lists) and lists[0][0][1] + lists[1][0][1] == Form.number(-2):
             lists = [self.ending(node, lists, name, first, upward)]
         if len(lists) != 1:
             self.refuse(node, "a loop whose condition joins by ||")
-            return [ZERO], [], []
-        found = ([], [], [])
+            return [ZERO], []
+        found = ([], [])
         for op, row in lists[0]:
             self.limit(node, op, row, name, first, upward, found)
         return found
@@ -208,7 +210,7 @@ class Loops:
 
     def limit(self, node, op, row, name, first, upward, found):
         """One row of a loop's condition: a last value, or a row for the loop as a whole."""
-        limits, entries, inside = found
+        limits, entries = found
         by = row.coefficient(name)
         if by is None or op == "==" and by != ZERO:
             self.refuse(node, "a loop whose condition isn't affine")
@@ -220,11 +222,8 @@ class Loops:
             rest, size = row.without(name), abs(by.constant())
             floor = self.floor(rest, size)
             if floor is None:
-                inside.append((op, row))
-                greatest = self.greatest(rest)
-                floor = None if greatest is None else self.floor(greatest, size)
-                if floor is None:
-                    return
+                self.refuse(node, "a loop whose last turn the sizes don't tell")
+                return
             limits.append(floor if upward else -floor)
         else:
             entries += [it for it in [(op, row.put(name, first))] if not (it[1].is_number() and it[1].constant() >= 0)]
@@ -247,19 +246,15 @@ class Loops:
             return exact
         return self.sizes.quotient(form, number) if form.of_sizes() else None
 
-    def greatest(self, form):
-        """The greatest value of a form over the open loops, a form of sizes; None where it isn't told."""
-        return None
-
     def run_swapped(self, node, changed, moves, swaps, start, counter, condition, step, body):
         """A loop in which two pointers change places: two turns in one, and the last of an odd number behind."""
         name, turn, first, upward = self.counted_by(changed, moves, start, counter)
         self.bind(changed, moves, start, turn)
         self.open.append(name)
-        limits, entries, inside = self.limits(node, self.condition(condition), name, first, upward)
+        limits, entries = self.limits(node, self.condition(condition), name, first, upward)
         self.open.pop()
         turns = (limits[0] - first if upward else first - limits[0]).plus(1) if len(limits) == 1 else None
-        if turns is None or entries or inside or not turns.of_sizes():
+        if turns is None or entries or not turns.of_sizes():
             self.refuse(node, "pointers that change places in a loop whose turns the sizes don't tell")
             self.lose(changed)
             return

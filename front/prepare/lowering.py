@@ -34,7 +34,7 @@ class Lowering(Values, Conditions, Loops):
     def begin(self):
         self.sizes, self.env, self.items, self.obstacles = Sizes(), {}, [], {}
         self.found, self.walked, self.needs, self.partial, self.assumed, self.words = set(), {}, [], [], set(), []
-        self.later, self.kept_reads, self.loose, self.flag_cells = [], [], set(), {}
+        self.later, self.kept_reads, self.loose = [], [], set()
         self.dry, self.hidden, self.guarded, self.depth, self.open, self.prelude_steps = 0, 0, 0, 0, [], []
         self.assigned = set(self.changed(self.nest))
         addresses = self.addresses()
@@ -219,7 +219,8 @@ class Lowering(Values, Conditions, Loops):
         tree = self.value(condition)
         if self.parts:
             self.emit(Cell((f"condition_{self.source.line(node.start)}",), ()), tree, condition)
-            self.words.append(f"the if at line {self.source.line(node.start)} depends on data: what it decides is left out")
+            told = f"the if at line {self.source.line(node.start)} depends on data: what it decides is left out"
+            self.words += [told] if told not in self.words else []
         ends = []
         for arm in (one, other):
             self.env = dict(before)
@@ -235,10 +236,10 @@ class Lowering(Values, Conditions, Loops):
             self.found.add(cell.key)
         if cell.subs is None or self.hidden:
             self.loose.add(cell.key)
+        kept = [("cell", it) for it in self.taken_reads()]
         if not self.dry and not self.hidden:
             if cell.subs is None:
                 cell = Cell(("somewhere_" + str(self.source.line(node.start)),), ())
-            kept = [("cell", it) for it in self.taken_reads()]
             whole = ("call", "f", tree, *kept) if kept else tree
             self.items.append(Statement(cell, whole, self.source.spelled(node), self.source.line(node.start), node.start))
         pending, self.later = self.later, []

@@ -37,6 +37,8 @@ class Program:
     def left_out(self):
         """Part of a graph: reads of what instances that are left out may write are left out too."""
         loose = self.lowering.loose
+        if self.lowering.parts and (loose or self.told):
+            self.told.append("this is a part: its bound of loads holds for every run, and nothing is said of stores")
         if loose:
             def kept(cell):
                 return None if cell.key in loose or cell.subs is None else cell
@@ -71,7 +73,7 @@ class Program:
                 if one is not other and (one in touched or other in touched) and origins[one] & origins[other]:
                     name, from_ = sorted((one.name, other.name))
                     self.refuse(f"{name} and {from_} may be one array", self.first_line())
-        if len(bases) > 1:
+        if len(bases) > 1 and not self.obstacles:
             self.told.append("arrays with different names don't overlap: " + ", ".join(sorted(it.name for it in bases)))
 
     def columns(self):

@@ -162,11 +162,12 @@ class Values:
             if it.kind == "name" and not it.declaration.is_function and it.declaration.value is None:
                 if it.declaration.key in self.assigned or it.declaration.key in self.env or it.sort == "array":
                     return False
+                if (it.declaration,) in self.written:
+                    return False
             elif it.kind in ("index", "member") or it.kind == "unary" and it.op == "*":
                 cell = self.cell(it, quiet=True)
                 if cell is None or cell.key in self.written or not all(isinstance(sub, Form) and sub.of_sizes() for sub in cell.subs):
                     return False
-                self.flag_cells.setdefault(cell.key, it.start)
             elif it.kind == "call" and not self.effect_free(it):
                 return False
             elif it.kind in ("unknown", "assign", "union", "string") or it.kind == "unary" and it.op in ("++", "--", "post++", "post--", "&"):
@@ -225,7 +226,7 @@ class Values:
         if form is None:
             if self.parts and not quiet:
                 self.kept_reads += reads_of(self.value(index))
-                return self.somewhere(address)
+                return self.somewhere(node, address)
             return self.refuse(index, "indirect subscript: data decide it", quiet)
         if form is UNKNOWN:
             return self.refuse(index, "subscript by a value that the loops don't tell", quiet)
@@ -234,10 +235,10 @@ class Values:
         moved = address.moved(form)
         return Cell(moved.key, moved.subs)
 
-    def somewhere(self, address):
+    def somewhere(self, node, address):
         """Part of a graph: of a cell whose subscript is data only the array is known."""
         if address is UNKNOWN:
-            return None
+            return self.refuse(node, "an address that isn't told by the loops")
         self.loose.add(address.key)
         return Cell(address.key, None)
 
