@@ -165,6 +165,23 @@ class Programs(unittest.TestCase):
         self.assertEqual(list(tiles.get_ydata()), [3192, 956, 588])
 
 
+class Pages(unittest.TestCase):
+    @unittest.skipIf(sympy is None or matplotlib is None, "python3-sympy or python3-matplotlib isn't installed")
+    def test_using(self):
+        """The lines of Python in docs/USING.md run, and have the values that stand behind them."""
+        lines = re.findall(r"(?m)^    (.*)$", text_of("docs/USING.md").split("## In Python")[1].split("## ")[0])
+        names, before = {}, os.getcwd()
+        os.chdir(TOP)
+        try:
+            for line in lines:
+                words, _, said = (it.strip() for it in line.partition("#"))
+                found = eval(words, names) if words.startswith("made.") else exec(words, names)
+                if said.startswith(("[", "6")):
+                    self.assertEqual(str(found), said)
+        finally:
+            os.chdir(before)
+
+
 class Nests(unittest.TestCase):
     def test_operations(self):
         runs = nests.runs_of(text_of("bench/polybench/cholesky.c"))
