@@ -4,12 +4,18 @@ memory of its own. What is address arithmetic alone (`data` says of which whole 
 from .reading import Type, WHOLE, sort_of
 from .values import PURE
 
-HEAD = r"""
-extern int printf(const char *, ...); extern void *calloc(unsigned long, unsigned long);
-static void rd_(const volatile void *p) { printf("r %ld\n", (long)p); }
-static void wr_(const volatile void *p) { printf("w %ld\n", (long)p); }
-static void rdv_(long id) { printf("r v%ld\n", id); }
-static void wrv_(long id) { printf("w v%ld\n", id); }
+# What the rewritten nest calls; it stands in a file of its own, since the nest's file may declare the library in its own way.
+HEAD = """extern void rd_(const volatile void *), wr_(const volatile void *), rdv_(long), wrv_(long), size_(const char *, long);
+extern void *memory_(unsigned long, unsigned long);
+"""
+LOG = r"""#include <stdio.h>
+#include <stdlib.h>
+void rd_(const volatile void *p) { printf("r %ld\n", (long)p); }
+void wr_(const volatile void *p) { printf("w %ld\n", (long)p); }
+void rdv_(long id) { printf("r v%ld\n", id); }
+void wrv_(long id) { printf("w v%ld\n", id); }
+void size_(const char *name, long value) { printf("s %s %ld\n", name, value); }
+void *memory_(unsigned long count, unsigned long bytes) { return calloc(count, bytes); }
 """
 
 
@@ -140,9 +146,9 @@ def first_values(place, kind, depth, number):
     if kind.kind == Type.POINTER and depth < 4:
         inner = kind.get_pointee().get_canonical()
         if inner.get_size() <= 0:
-            return f"*(void **)&{place} = (char *)calloc(1 << 16, 8) + (1 << 18);"
+            return f"*(void **)&{place} = (char *)memory_(1 << 16, 8) + (1 << 18);"
         many = 64 if sort_of(inner) in ("pointer", "record") else 1 << 15
-        text = f"*(void **)&{place} = (char *)calloc({many}, {inner.get_size()}) + {many // 4 * inner.get_size()};"
+        text = f"*(void **)&{place} = (char *)memory_({many}, {inner.get_size()}) + {many // 4 * inner.get_size()};"
         whole = inner.kind in WHOLE
         if sort_of(inner) in ("pointer", "record") or whole and not inner.is_const_qualified():
             text += f" for (int {name} = {'0' if whole else -(many // 4)}; {name} < {1 if whole else many // 2}; {name}++) {{ {first_values(f'{place}[{name}]', inner, depth + 1, number)} }}"

@@ -4,7 +4,6 @@ import re
 
 from .lowering import Lowering
 from .program import Program
-from .reading import ARRAYS
 from .writer import Writer
 
 

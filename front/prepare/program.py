@@ -1,7 +1,7 @@
 """What a nest was read as, made into a program that `iolb` reads: columns, rows, sizes, assumptions and limits."""
 
-from .forms import Form, ONE, is_loop
-from .nest import Cell, Guard, Loop, Statement, mapped, nodes, reads_of, walk
+from .forms import Form, is_loop
+from .nest import Cell, Guard, Loop, mapped, nodes, reads_of, walk
 from .rows import Refused, in_rows
 from .sizes import words
 
