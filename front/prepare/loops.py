@@ -1,5 +1,7 @@
 """Loops: what moves by the same in each turn is told by the turn, and the condition says how many turns there are."""
 
+from dataclasses import dataclass, replace
+
 from .forms import Form, ONE, ZERO, fresh
 from .nest import Guard, Loop, Pointer, UNKNOWN
 from .reading import Node
@@ -10,6 +12,31 @@ class Later:
 
     def __init__(self, form, row):
         self.form, self.row = form, row
+
+
+@dataclass(frozen=True)
+class Head:
+    """A loop as it is read: what its turns change, by how much each moves where that is told, and what each is at first; the variable
+    that counts; and its condition, step and body."""
+
+    node: object
+    changed: dict
+    moves: dict
+    start: dict
+    counter: object
+    condition: object
+    step: object
+    body: object
+
+
+@dataclass(frozen=True)
+class Count:
+    """How a loop counts: its name, the turn as a form of it, its first value, and whether it runs upward."""
+
+    name: str
+    turn: Form
+    first: Form
+    upward: bool
 
 
 def is_unit(form):
@@ -33,10 +60,11 @@ class Loops:
             self.refuse(node, "a loop whose condition depends on data" if on_data else "a loop whose variable doesn't move by the same in each turn")
             self.lose(changed)
             return
+        head = Head(node, changed, moves, start, counter, condition, step, body)
         if swaps:
-            self.run_swapped(node, changed, moves, swaps, start, counter, condition, step, body)
+            self.run_swapped(head, swaps)
         else:
-            self.run_counted(node, changed, moves, start, counter, extra, condition, step, body)
+            self.run_counted(head, extra)
 
     def begin_loop(self, first):
         """What stands first is done; of `i = max(a, b)` the loop begins with a, and b is a row."""
@@ -121,42 +149,46 @@ class Loops:
             else:
                 self.env[key] = first + by * turn if isinstance(first, Form) else first.moved(by * turn)
 
-    def counted_by(self, changed, moves, start, counter):
-        """(the loop's name, the turn as a form of it, its first value, whether it runs upward)."""
-        by, first = moves[counter], start[counter]
+    def counted_by(self, head):
+        by, first = head.moves[head.counter], head.start[head.counter]
+        name = fresh("%", head.changed[head.counter].name)
         if is_unit(by) and isinstance(first, Form):
-            name = fresh("%", changed[counter].name)
-            return name, (Form.of(name) - first).times(by.constant()), first, by.constant() > 0
-        name = fresh("%", changed[counter].name)
-        return name, Form.of(name), ZERO, True
+            return Count(name, (Form.of(name) - first).times(by.constant()), first, by.constant() > 0)
+        return Count(name, Form.of(name), ZERO, True)
 
-    def run_counted(self, node, changed, moves, start, counter, extra, condition, step, body):
-        name, turn, first, upward = self.counted_by(changed, moves, start, counter)
+    def run_counted(self, head, extra):
+        node, count = head.node, self.counted_by(head)
+        name, upward = count.name, count.upward
         if extra is not None:
-            moves = {key: by if key == counter else None for key, by in moves.items()}
-            if extra[0] != counter or not is_unit(moves[counter]) or (extra[1] == "max") != upward:
+            by = head.moves[head.counter]
+            if extra[0] != head.counter or not is_unit(by) or (extra[1] == "max") != upward:
                 self.refuse(node, "a loop that begins at a least or greatest value")
                 return
-        self.bind(changed, moves, start, turn)
+            head = replace(head, moves={key: by if key == head.counter else None for key in head.moves})
+        self.bind(head.changed, head.moves, head.start, count.turn)
         self.open.append(name)
-        limits, entries = self.limits(node, self.condition(condition), name, first, upward)
+        limits, entries = self.limits(node, self.condition(head.condition), count)
         if entries and extra is not None:
             self.refuse(node, "a loop that begins at a least or greatest value")
         inside = [(">=", Form.of(name) - it if upward else it - Form.of(name)) for it in (extra[2] if extra else [])]
         inside += [(">=", it - Form.of(name) if upward else Form.of(name) - it) for it in limits[1:]]
         self.guarded += bool(entries or inside)
-        made = self.collected(lambda: self.rest_of_turn(step, body))
+        made = self.collected(lambda: self.rest_of_turn(head.step, head.body))
         self.guarded -= bool(entries or inside)
         self.open.pop()
         if not limits:
             self.refuse(node, "a loop whose last turn the sizes don't tell")
-            self.lose(changed)
+            self.lose(head.changed)
             return
-        turns = (limits[0] - first if upward else first - limits[0]).plus(1)
-        self.end(changed, moves, start, turns if not (len(limits) > 1 or entries or inside) else None, condition)
+        turns = self.turns(count, limits)
+        self.end(head.changed, head.moves, head.start, turns if not (len(limits) > 1 or entries or inside) else None, head.condition)
         if made:
-            loop = Loop(name, first, limits[0], upward, [Guard(inside, made)] if inside else made, self.source.line(node.start))
+            loop = Loop(name, count.first, limits[0], upward, [Guard(inside, made)] if inside else made, self.source.line(node.start))
             self.items += [Guard(entries, [loop])] if entries else [loop]
+
+    def turns(self, count, limits):
+        """How many turns there are up to the first of the last values."""
+        return (limits[0] - count.first if count.upward else count.first - limits[0]).plus(1)
 
     def rest_of_turn(self, step, body):
         self.run_all([body] if body.kind != "block" else body.kids)
@@ -179,24 +211,25 @@ class Loops:
         for key in changed:
             self.env[key] = start[key] if moves[key] == ZERO else UNKNOWN
 
-    def limits(self, node, cases, name, first, upward):
+    def limits(self, node, cases, count):
         """(last values, all of which hold; rows for the loop as a whole)."""
         if cases is None:
             self.refuse(node, "a loop whose condition depends on data")
             return [ZERO], []
         lists = cases[0]
         if len(lists) == 2 and all(len(rows) == 1 for rows in lists) and lists[0][0][1] + lists[1][0][1] == Form.number(-2):
-            lists = [self.ending(node, lists, name, first, upward)]
+            lists = [self.ending(node, lists, count)]
         if len(lists) != 1:
             self.refuse(node, "a loop whose condition joins by ||")
             return [ZERO], []
         found = ([], [])
         for op, row in lists[0]:
-            self.limit(node, op, row, name, first, upward, found)
+            self.limit(node, op, row, count, found)
         return found
 
-    def ending(self, node, lists, name, first, upward):
+    def ending(self, node, lists, count):
         """Of `i != end` the side on which the loop ends, which is assumed to be where it begins."""
+        name, first, upward = count.name, count.first, count.upward
         for rows in lists:
             by = rows[0][1].coefficient(name)
             if by is not None and by.is_number() and by.constant() == (-1 if upward else 1):
@@ -208,9 +241,9 @@ class Loops:
         self.refuse(node, "a loop with != whose step may not meet its end")
         return []
 
-    def limit(self, node, op, row, name, first, upward, found):
+    def limit(self, node, op, row, count, found):
         """One row of a loop's condition: a last value, or a row for the loop as a whole."""
-        limits, entries = found
+        (limits, entries), name, upward = found, count.name, count.upward
         by = row.coefficient(name)
         if by is None or op == "==" and by != ZERO:
             self.refuse(node, "a loop whose condition isn't affine")
@@ -226,7 +259,7 @@ class Loops:
                 return
             limits.append(floor if upward else -floor)
         else:
-            entries += [it for it in [(op, row.put(name, first))] if not (it[1].is_number() and it[1].constant() >= 0)]
+            entries += [it for it in [(op, row.put(name, count.first))] if not (it[1].is_number() and it[1].constant() >= 0)]
 
     def limit_by_size(self, node, by, rest, upward, limits):
         """A step by a size: how many turns there are is a size of its own."""
@@ -246,39 +279,39 @@ class Loops:
             return exact
         return self.sizes.quotient(form, number) if form.of_sizes() else None
 
-    def run_swapped(self, node, changed, moves, swaps, start, counter, condition, step, body):
+    def run_swapped(self, head, swaps):
         """A loop in which two pointers change places: two turns in one, and the last of an odd number behind."""
-        name, turn, first, upward = self.counted_by(changed, moves, start, counter)
-        self.bind(changed, moves, start, turn)
-        self.open.append(name)
-        limits, entries = self.limits(node, self.condition(condition), name, first, upward)
+        node, changed, start, count = head.node, head.changed, head.start, self.counted_by(head)
+        self.bind(changed, head.moves, start, count.turn)
+        self.open.append(count.name)
+        limits, entries = self.limits(node, self.condition(head.condition), count)
         self.open.pop()
-        turns = (limits[0] - first if upward else first - limits[0]).plus(1) if len(limits) == 1 else None
+        turns = self.turns(count, limits) if len(limits) == 1 else None
         if turns is None or entries or not turns.of_sizes():
             self.refuse(node, "pointers that change places in a loop whose turns the sizes don't tell")
             self.lose(changed)
             return
         half = self.quotient(turns, 2)
-        pair = fresh("%", changed[counter].name)
+        pair = fresh("%", changed[head.counter].name)
         swapped = {key: start[swaps.get(key, key)] for key in changed}
         self.open.append(pair)
         made = []
         for begin, at in ((start, Form.of(pair).times(2)), (swapped, Form.of(pair).times(2).plus(1))):
-            made += self.collected(lambda: self.one_turn(changed, moves, swaps, begin, at, condition, step, body))
+            made += self.collected(lambda: self.one_turn(head, swaps, begin, at))
         self.open.pop()
         self.items.append(Loop(pair, ZERO, half - ONE, True, made, self.source.line(node.start)))
         self.guarded += 1
-        last = self.collected(lambda: self.one_turn(changed, moves, swaps, start, half.times(2), condition, step, body))
+        last = self.collected(lambda: self.one_turn(head, swaps, start, half.times(2)))
         self.guarded -= 1
         self.items.append(Guard([(">=", turns - half.times(2) - ONE)], last))
         self.lose(changed)
 
-    def one_turn(self, changed, moves, swaps, begin, at, condition, step, body):
-        self.bind(changed, {key: ZERO if key in swaps else by for key, by in moves.items()}, begin, at)
+    def one_turn(self, head, swaps, begin, at):
+        self.bind(head.changed, {key: ZERO if key in swaps else by for key, by in head.moves.items()}, begin, at)
         self.dry += 1
-        self.condition(condition)
+        self.condition(head.condition)
         self.dry -= 1
-        self.rest_of_turn(step, body)
+        self.rest_of_turn(head.step, head.body)
 
 
 def extremes(node):
